@@ -1,0 +1,13 @@
+pub mod Cases
+pub mod Cong
+pub mod Divides
+pub mod First
+pub mod Gcd
+pub mod Multiplier
+pub mod Pigeonhole
+pub mod Remainders
+pub mod Ring
+pub mod RingExamples
+pub mod Units
+pub mod Refusals
+pub mod Bytes

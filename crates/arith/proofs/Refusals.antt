@@ -1,0 +1,122 @@
+-- Laws of the refusals' numbers: what is known past a check, and what a call hands back where one refuses. Assumes nothing.
+use mathlib.Core.Path.{_≡_, refl, sym, _∙_, ap}
+use mathlib.Core.List.{List}
+use mathlib.Core.Bool.{Bool, true, false, _&&_, cond}
+use Prim.Native.Nat.{ℕ, zero, suc, _*_, _%_, _≤_, _<_}
+use native.Mathlib.Omega.{arith}
+use lib.Dec.{leb, ltb, eqb}
+use borrow.Author.Tests.{leb-true, ltb-true, eqb-true}
+use Rattle.arith.specs.Bytes.{front}
+use Rattle.arith.specs.Answers.{Answered, Written}
+use Rattle.arith.specs.Refusals.{checked, numberOf, orElse, unless, kept, unlessHolds, dimensionOf, widthOf, givenOf, sizeOf, listSizeOf, roomOf, rangeOf, rowOf, pairingOf, parityOf, Dimension, Width}
+use Rattle.arith.specs.declared.checks.Check.{Check}
+use Rattle.arith.specs.declared.checks.Check.the-variants.{Good, Refused}
+use Rattle.arith.specs.declared.checks.Answer.{Answer}
+
+-- ---- the answer r of a check that found x
+-- it is Good: x is 0
+pub good : (x : ℕ) {r : Check} → r ≡ checked x → r ≡ Good → x ≡ 0
+unfolding checked
+good zero e g = refl
+good (suc x) e g = let z : _≡_ {A = ℕ} 0 1 = cc in absurd (omega arith)
+
+pub passes : (x : ℕ) → x ≡ 0 → Good ≡ checked x
+unfolding checked
+passes x e = rw e
+
+-- it refuses: z is the first refusal, whatever comes after, a result is 0, and an output is as it was
+pub record Stops (r : Check) (z : ℕ) : Type 0 where
+  pub same : r ≡ checked z
+  pub number : numberOf r ≡ z
+  pub value : (v : ℕ) → 0 ≡ unless z v
+  pub out : (old new : List ℕ) → old ≡ kept z old new
+
+pub stop-last : (x : ℕ) {k : ℕ} {r : Check} → r ≡ checked x → r ≡ Refused k → Stops r x
+unfolding checked
+stop-last zero e g = let z : _≡_ {A = ℕ} 0 1 = cc in absurd (omega arith)
+stop-last (suc x) e g = record { same = e; number = ap numberOf e; value = λ v. refl; out = λ old new. refl }
+
+pub stop : (x y : ℕ) {k : ℕ} {r : Check} → r ≡ checked x → r ≡ Refused k → Stops r (orElse x y)
+unfolding checked
+stop zero y e g = let z : _≡_ {A = ℕ} 0 1 = cc in absurd (omega arith)
+stop (suc x) y e g = stop-last (suc x) e g
+
+-- what a refused call promises
+pub stop-answered : {r : Check} {z : ℕ} {a : Answer} (v : ℕ) → Stops r z → (a .number ≡ numberOf r) × (a .value ≡ 0) → Answered z v a
+stop-answered v s e = record { number = e .0 ∙ s .number; value = e .1 ∙ s .value v }
+
+pub stop-written : {r : Check} {z x : ℕ} (answer old : List ℕ) → Stops r z → x ≡ numberOf r → Written z answer old old x
+stop-written answer old s e = record { number = e ∙ s .number; out = s .out old (front answer old) }
+
+-- what an accepted call promises
+pub answered : {z v : ℕ} {a : Answer} → z ≡ 0 → a .number ≡ 0 → a .value ≡ v → Answered z v a
+answered e f g = record { number = f ∙ sym e; value = rw e g }
+
+pub written : {z x : ℕ} {answer old new : List ℕ} → z ≡ 0 → x ≡ 0 → new ≡ front answer old → Written z answer old new x
+written e f g = record { number = f ∙ sym e; out = rw e g }
+
+-- ---- several refusals
+pub orElse-none : (a b : ℕ) → orElse a b ≡ 0 → (a ≡ 0) × (b ≡ 0)
+orElse-none zero b e = (refl, e)
+orElse-none (suc a) b e = absurd (omega (arith, e))
+
+pub orElse-skip : {a : ℕ} (b : ℕ) → a ≡ 0 → orElse a b ≡ b
+orElse-skip b e = rw e
+
+pub orElse-assoc : (a b c : ℕ) → orElse (orElse a b) c ≡ orElse a (orElse b c)
+orElse-assoc zero b c = refl
+orElse-assoc (suc a) b c = refl
+
+-- ---- what holds where nothing is refused
+pub held : (k : ℕ) (test : Bool) → unlessHolds (suc k) test ≡ 0 → test ≡ true
+held k true e = refl
+held k false e = absurd (omega (arith, e))
+
+pub both-held : (a b : Bool) → (a && b) ≡ true → (a ≡ true) × (b ≡ true)
+both-held true b e = (refl, e)
+both-held false b e = (e, cc)
+
+pub dimension-good : {d : ℕ} → dimensionOf d ≡ 0 → Dimension d
+unfolding dimensionOf
+dimension-good {d} e = let b = both-held (leb 2 d) (leb d 1024) (held 0 _ e) in record { d-low = leb-true 2 d (b .0); d-high = leb-true d 1024 (b .1) }
+
+pub width-good : {n : ℕ} → widthOf n ≡ 0 → Width n
+unfolding widthOf
+width-good {n} e = let b = both-held (leb 1 n) (leb n 16) (held 1 _ e) in record { n-low = leb-true 1 n (b .0); n-high = leb-true n 16 (b .1) }
+
+-- d and n, once 1 and 2 are past
+pub record Given (d n : ℕ) : Type 0 where
+  pub dimension : Dimension d
+  pub width : Width n
+
+pub given-good : {d n : ℕ} → givenOf d n ≡ 0 → Given d n
+unfolding givenOf
+given-good {d} {n} e = let z = orElse-none (dimensionOf d) (widthOf n) e in record { dimension = dimension-good (z .0); width = width-good (z .1) }
+
+pub size-good : {want have : ℕ} → sizeOf want have ≡ 0 → have ≡ want
+unfolding sizeOf
+size-good {want} {have} e = eqb-true have want (held 2 _ e)
+
+pub list-size-good : {have : ℕ} → listSizeOf have ≡ 0 → (have % 8 ≡ 0) × (have ≤ 8 * 4096)
+unfolding listSizeOf
+list-size-good {have} e = let b = both-held (eqb (have % 8) 0) (leb have (8 * 4096)) (held 2 _ e) in (eqb-true (have % 8) 0 (b .0), leb-true have (8 * 4096) (b .1))
+
+pub room-good : {want have : ℕ} → roomOf want have ≡ 0 → want ≤ have
+unfolding roomOf
+room-good {want} {have} e = leb-true want have (held 3 _ e)
+
+pub range-good : {bound x : ℕ} → rangeOf bound x ≡ 0 → x < bound
+unfolding rangeOf
+range-good {bound} {x} e = ltb-true x bound (held 4 _ e)
+
+pub row-good : (legal : Bool) → rowOf legal ≡ 0 → legal ≡ true
+unfolding rowOf
+row-good legal e = held 5 legal e
+
+pub pairing-good : (holds : Bool) → pairingOf holds ≡ 0 → holds ≡ true
+unfolding pairingOf
+pairing-good holds e = held 6 holds e
+
+pub parity-good : (holds : Bool) → parityOf holds ≡ 0 → holds ≡ true
+unfolding parityOf
+parity-good holds e = held 7 holds e

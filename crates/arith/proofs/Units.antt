@@ -1,0 +1,94 @@
+-- What Unit.antt computes: the first number below a bound, the inverse of a unit, the least multiplier.
+use mathlib.Core.Path.{_≡_, refl, sym, _∙_, ap, subst}
+use mathlib.Core.Bool.{Bool, true, false, not, cond}
+use Prim.Native.Nat.{ℕ, zero, suc, _+_, _*_, _%_, _<_}
+use native.Mathlib.Nat.{mul-comm, mod-eq-of-lt}
+use native.Mathlib.Omega.{arith}
+use lib.Dec.{T, T-not, eqb, eqb→eq, eqb-refl}
+use Rattle.arith.proofs.Cong.{Cong, cong-eq, cong-trans, cong-of-eq}
+use Rattle.arith.proofs.Divides.{dvd-one, dvd-mul-l, dvd-resp}
+use Rattle.arith.specs.Gcd.{gcd}
+use Rattle.arith.proofs.Gcd.{gcd-left, gcd-right, inverse, gcd-zero-left, inverse-unique}
+use Rattle.arith.proofs.Multiplier.{multiplier}
+use Rattle.arith.proofs.First.{First, none-more, first-unique}
+use Rattle.arith.specs.Units.{fits, firstFrom, firstBelow, inverseOf, leastMultiplier}
+
+-- m is the first number that passes, and is below the bound
+pub record FirstUnder (test : ℕ → Bool) (bound m : ℕ) : Type 0 where
+  pub first : First test m
+  pub below : m < bound
+
+-- the search from k on, where no number before k passes and some j before k + n does
+firstFrom-law : (test : ℕ → Bool) (n k j : ℕ) → j < k + n → T (test j) → ((i : ℕ) → i < k → T (not (test i))) → FirstUnder test (k + n) (firstFrom test n k)
+firstFrom-law test zero k j l t h = absurd (T-not (test j) (h j (omega arith)) t)
+firstFrom-law test (suc n) k j l t h = go (test k) refl (λ f. firstFrom-law test n (suc k) j (omega arith) t f)
+  where
+    go : (b : Bool) → test k ≡ b
+        → (((i : ℕ) → i < suc k → T (not (test i))) → FirstUnder test (suc k + n) (firstFrom test n (suc k)))
+        → FirstUnder test (k + suc n) (cond b k (firstFrom test n (suc k)))
+    go true e rec = record { first = record { passes = subst T (sym e) tt; none-before = h }; below = omega arith }
+    go false e rec =
+        let r = rec (none-more test k h (subst (λ (b : Bool). T (not b)) (sym e) tt)) in
+        record { first = r .first; below = omega (arith, r .below) }
+
+firstBelow-law : (test : ℕ → Bool) (bound j : ℕ) → j < bound → T (test j) → FirstUnder test bound (firstBelow test bound)
+unfolding firstBelow
+firstBelow-law test bound j l t =
+    let r = firstFrom-law test bound 0 j (omega arith) t (λ i k. absurd (omega arith)) in
+    record { first = r .first; below = omega (arith, r .below) }
+
+-- ---- the inverse of a unit
+module _ (d q : ℕ) (large : 1 < d) (unit : gcd q d ≡ 1) where
+  inverse-found : FirstUnder (λ x. eqb (q * x % d) 1) d (inverseOf d q)
+  unfolding inverseOf
+  inverse-found =
+      let z = inverse d q (omega arith) unit in
+      let e : q * z .inv % d ≡ 1 = ap (λ (x : ℕ). x % d) (mul-comm q (z .inv)) ∙ z .eq .same ∙ mod-eq-of-lt large in
+      firstBelow-law (λ x. eqb (q * x % d) 1) d (z .inv) (z .below) (subst (λ (x : ℕ). T (eqb x 1)) (sym e) (eqb-refl 1))
+
+  pub inverse-below : inverseOf d q < d
+  inverse-below = inverse-found .below
+
+  pub inverse-times : Cong d (q * inverseOf d q) 1
+  inverse-times = record { same = eqb→eq (q * inverseOf d q % d) 1 (inverse-found .first .passes) ∙ sym (mod-eq-of-lt large) }
+
+-- a unit is positive
+pub unit-pos : (d k : ℕ) → 1 < d → gcd k d ≡ 1 → 0 < k
+unit-pos d zero large e = absurd (omega (arith, gcd-zero-left d))
+unit-pos d (suc k) large e = omega arith
+
+module _ (d q : ℕ) (large : 1 < d) (unit : gcd q d ≡ 1) where
+  pub inverse-unit : gcd (inverseOf d q) d ≡ 1
+  inverse-unit = dvd-one (dvd-resp (gcd-right (inverseOf d q) d) (inverse-times d q large unit) (dvd-mul-l q (gcd-left (inverseOf d q) d)))
+
+  pub inverse-pos : 0 < inverseOf d q
+  inverse-pos = unit-pos d (inverseOf d q) large inverse-unit
+
+  -- the only one below d
+  pub inverse-only : (u : ℕ) → u < d → Cong d (q * u) 1 → u ≡ inverseOf d q
+  inverse-only u l h = cong-eq (inverse-unique q (omega arith) (cong-trans (cong-of-eq (mul-comm u q)) h) (cong-trans (cong-of-eq (mul-comm (inverseOf d q) q)) (inverse-times d q large unit))) l (inverse-below d q large unit)
+
+-- ---- the least multiplier
+module _ (d a b : ℕ) (pos : 0 < d) where
+  least-found : FirstUnder (fits a b d) d (leastMultiplier d a b)
+  unfolding leastMultiplier
+  least-found =
+      let z = multiplier a b d pos in
+      firstBelow-law (fits a b d) d (z .m) (z .below) (subst (λ (x : ℕ). T (eqb x (gcd (gcd a b) d))) (sym (z .eq)) (eqb-refl (gcd (gcd a b) d)))
+
+  pub least-below : leastMultiplier d a b < d
+  least-below = least-found .below
+
+  pub least-gcd : gcd (a + leastMultiplier d a b * b) d ≡ gcd (gcd a b) d
+  least-gcd = eqb→eq (gcd (a + leastMultiplier d a b * b) d) (gcd (gcd a b) d) (least-found .first .passes)
+
+  -- the first number that fits is this one
+  pub least-unique : (m : ℕ) → First (fits a b d) m → m ≡ leastMultiplier d a b
+  least-unique m f = first-unique f (least-found .first)
+
+-- what the loop of a program needs: while none of the numbers below k fits, k is below d
+pub still-below : (a b d k : ℕ) → 0 < d → ((j : ℕ) → j < k → T (not (fits a b d j))) → k < d
+still-below a b d k p h = let z = least-found d a b p in omega (arith, past (z .first), z .below)
+  where
+    past : First (fits a b d) (leastMultiplier d a b) → ¬ (leastMultiplier d a b < k)
+    past f l = T-not (fits a b d (leastMultiplier d a b)) (h (leastMultiplier d a b) l) (f .passes)

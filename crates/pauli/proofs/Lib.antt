@@ -1,0 +1,14 @@
+pub mod Digits
+pub mod Dots
+pub mod Steps
+pub mod Frame
+pub mod Gates
+pub mod Group
+pub mod Hom
+pub mod Lists
+pub mod Onto
+pub mod Ranges
+pub mod Step
+pub mod Sums
+pub mod Undo
+pub mod Units

@@ -1,0 +1,11 @@
+pub mod Bench
+pub mod Count
+pub mod Demand3
+pub mod Entries
+pub mod Examples
+pub mod FirstColumn
+pub mod Phases
+pub mod Reached
+pub mod SecondColumn
+pub mod Steps
+pub mod Theorem

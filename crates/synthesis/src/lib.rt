@@ -1,0 +1,1 @@
+// Definitions and laws; the code comes with the calls.

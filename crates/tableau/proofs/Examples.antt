@@ -1,0 +1,28 @@
+-- The inverse and the image at given tableaus, computed.
+use mathlib.Core.Path.{_≡_, refl}
+use mathlib.Core.List.{[], _∷_}
+use Rattle.arith.specs.Residues.{neg}
+use Rattle.gates.specs.Row.{F, S, A, X, Z, run}
+use Rattle.tableau.specs.Tableau.{tableauOf, image, units, compose}
+use Rattle.tableau.specs.Inverse.{inverse}
+
+inverse-F : inverse 3 1 (tableauOf 3 1 (F 0 1 ∷ [])) ≡ tableauOf 3 1 (F 0 3 ∷ [])
+unfolding neg
+inverse-F = refl
+
+inverse-S : inverse 2 1 (tableauOf 2 1 (S 0 1 ∷ [])) ≡ tableauOf 2 1 (S 0 3 ∷ [])
+unfolding neg
+inverse-S = refl
+
+-- for an even d, a list of two qudits and the list that undoes it
+inverse-list : inverse 4 2 (tableauOf 4 2 (F 0 1 ∷ A 0 1 3 ∷ S 1 5 ∷ X 0 2 ∷ Z 1 3 ∷ [])) ≡ tableauOf 4 2 (Z 1 1 ∷ X 0 2 ∷ S 1 3 ∷ A 0 1 1 ∷ F 0 3 ∷ [])
+unfolding neg
+inverse-list = refl
+
+both-ways : compose 4 2 (inverse 4 2 (tableauOf 4 2 (F 0 1 ∷ A 0 1 3 ∷ S 1 5 ∷ []))) (tableauOf 4 2 (F 0 1 ∷ A 0 1 3 ∷ S 1 5 ∷ [])) ≡ units 2
+unfolding neg
+both-ways = refl
+
+image-list : image 4 2 (tableauOf 4 2 (F 0 1 ∷ A 0 1 3 ∷ S 1 5 ∷ [])) (record { phase = 5; v = 1 ∷ 3 ∷ []; w = 2 ∷ 3 ∷ [] }) ≡ run 4 (F 0 1 ∷ A 0 1 3 ∷ S 1 5 ∷ []) (record { phase = 5; v = 1 ∷ 3 ∷ []; w = 2 ∷ 3 ∷ [] })
+unfolding neg
+image-list = refl

@@ -1,0 +1,9 @@
+pub mod Columns
+pub mod Compose
+pub mod Examples
+pub mod Image
+pub mod Inverse
+pub mod Products
+pub mod Run
+pub mod Tests
+pub mod Units

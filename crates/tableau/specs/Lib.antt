@@ -1,0 +1,3 @@
+pub mod Inverse
+pub mod Soundness
+pub mod Tableau

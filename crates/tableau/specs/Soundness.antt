@@ -1,0 +1,32 @@
+-- Refusals 7 and 8 of document 01's table as tests that a program can run: over all columns j, and in it over all k > j; then over all columns.
+use mathlib.Core.List.{List, [], _∷_}
+use mathlib.Core.Bool.{Bool, true, false, _&&_, cond}
+use Prim.Native.Nat.{ℕ, suc, _*_, _-_}
+use lib.Dec.{eqb}
+use Rattle.pauli.specs.Pauli.{Pauli, comm, parity}
+use Rattle.tableau.specs.Tableau.{column, paired, upFrom}
+
+-- every number of the list passes
+abbrev pub all : (ℕ → Bool) → List ℕ → Bool
+all test [] = true
+all test (j ∷ js) = test j && all test js
+
+-- columns j < k; column j and every later one; every column
+abbrev pub pairPasses : ℕ → ℕ → List Pauli → ℕ → ℕ → Bool
+pairPasses d n t j k = eqb (comm d (column n t j) (column n t k)) (paired d n j k)
+
+abbrev pub laterPass : ℕ → ℕ → List Pauli → ℕ → Bool
+laterPass d n t j = all (pairPasses d n t j) (upFrom (suc j) (2 * n - suc j))
+
+abbrev pub pairingHolds : ℕ → ℕ → List Pauli → Bool
+pairingHolds d n t = all (laterPass d n t) (upFrom 0 (2 * n))
+
+abbrev pub evenPasses : ℕ → ℕ → List Pauli → ℕ → Bool
+evenPasses d n t j = eqb (parity d (column n t j)) 0
+
+abbrev pub parityHolds : ℕ → ℕ → List Pauli → Bool
+parityHolds d n t = all (evenPasses d n t) (upFrom 0 (2 * n))
+
+-- the number of the refusal: 7 for pairing, 8 for parity, 0 for none
+abbrev pub refusal : ℕ → ℕ → List Pauli → ℕ
+refusal d n t = cond (pairingHolds d n t) (cond (parityHolds d n t) 0 8) 7
