@@ -11,3 +11,4 @@ pub mod RingExamples
 pub mod Units
 pub mod Refusals
 pub mod Bytes
+pub mod Examples
