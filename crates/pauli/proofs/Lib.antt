@@ -1,7 +1,9 @@
+pub mod Change
 pub mod Digits
 pub mod Dots
 pub mod Steps
 pub mod Frame
+pub mod GateExamples
 pub mod Gates
 pub mod Group
 pub mod Hom

@@ -3,6 +3,8 @@
 use arith::residue::Phase;
 use arith::residue::Residue;
 
+pub mod effects;
+
 pub struct Pauli {
     pub phase: Phase,
     pub v: [Residue; 16],
