@@ -1,2 +1,5 @@
+pub mod Accepted
+pub mod Kept
 pub mod Rows
 pub mod Run
+pub mod Written

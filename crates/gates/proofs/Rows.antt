@@ -1,6 +1,6 @@
 -- Every legal row is a gate: it keeps products and phases, its undo row is legal and undoes it, and it leaves a Pauli alone that is zero at its qudits.
 use mathlib.Core.Path.{_≡_}
-use Prim.Native.Nat.{ℕ, _≤_, _<_}
+use Prim.Native.Nat.{ℕ, _<_}
 use native.Mathlib.Omega.{arith}
 use Rattle.arith.proofs.Units.{inverse-below, inverse-pos, inverse-unit}
 use Rattle.pauli.specs.Pauli.{Pauli, InRange}

@@ -1,10 +1,13 @@
 -- Lists of legal rows: a run keeps products and phases, and the undo rows in the other order undo it.
-use mathlib.Core.Path.{_≡_, refl, _∙_, ap}
-use mathlib.Core.List.{List, [], _∷_, _++_, map}
-use Prim.Native.Nat.{ℕ, _<_}
+use mathlib.Core.Path.{_≡_, refl, sym, _∙_, ap}
+use mathlib.Core.List.{List, [], _∷_, _++_, map, map-append}
+use Prim.Native.Nat.{ℕ, _+_, _<_}
+use Rattle.arith.specs.Bytes.{tab}
+use Rattle.arith.proofs.Bytes.{tab-more}
 use Rattle.pauli.specs.Pauli.{Pauli, InRange}
 use Rattle.pauli.proofs.Hom.{Hom, hom-id, hom-then}
 use Rattle.gates.specs.Row.{Row, apply, run, undo, AllLegal, none, more}
+use Rattle.gates.specs.Written.{WrittenRow, meant}
 use Rattle.gates.proofs.Rows.{row-hom, legal-undo, undoes}
 
 pub run-append : (d : ℕ) (rs qs : List Row) (p : Pauli) → run d (rs ++ qs) p ≡ run d qs (run d rs p)
@@ -14,6 +17,18 @@ run-append d (r ∷ rs) qs p = run-append d rs qs (apply d r p)
 pub run-hom : {d n : ℕ} {rs : List Row} → 1 < d → AllLegal d n rs → Hom d n (run d rs)
 run-hom {d} {n} large none = hom-id d n
 run-hom large (more {r = r} l a) = hom-then (row-hom r large l) (run-hom large a)
+
+-- a loop over a table of rows: none taken, and after row i
+pub run-start : (d : ℕ) (f : ℕ → WrittenRow) (p : Pauli) → p ≡ run d (map meant (tab f 0)) p
+unfolding tab
+run-start d f p = refl
+
+pub run-next : (d : ℕ) (f : ℕ → WrittenRow) (i : ℕ) (p : Pauli) {q s : Pauli} → q ≡ run d (map meant (tab f i)) p → s ≡ apply d (meant (f i)) q → s ≡ run d (map meant (tab f (i + 1))) p
+run-next d f i p e g =
+    g
+    ∙ ap (apply d (meant (f i))) e
+    ∙ sym (run-append d (map meant (tab f i)) (meant (f i) ∷ []) p)
+    ∙ ap (λ (l : List Row). run d l p) (sym (map-append meant (tab f i) (f i ∷ [])) ∙ ap (map meant) (sym (tab-more f i)))
 
 -- ---- rows kept with the last one first
 -- what they carry a Pauli to

@@ -1,1 +1,4 @@
+pub mod Calls
 pub mod Row
+pub mod View
+pub mod Written

@@ -1,1 +1,145 @@
-// Definitions and laws; the code comes with the calls.
+// Gate rows: which are legal, what each does to a Pauli, and lists of them.
+use arith::residue::Residue;
+use pauli::Pauli;
+ghost use mathlib.Core.Path.{_≡_};
+ghost use mathlib.Core.Bool.{true};
+ghost use Prim.Native.Nat.{_≤_};
+ghost use Rattle.arith.specs.Refusals.{Dimension};
+ghost use Rattle.arith.specs.Units.{Unit};
+ghost use Rattle.pauli.specs.View.{view};
+ghost use Rattle.gates.specs.Row.{apply};
+ghost use Rattle.gates.specs.Written.{meant, between, highest, legalPower, legalSecond, legalRow};
+ghost use Rattle.gates.specs.View.{viewRow, InverseRight};
+
+pub mod calls;
+pub mod lists;
+
+// A gate row as it is written: the qudits count from 1, and the second is 0 where the kind takes one.
+pub struct Row {
+    pub kind: u16,
+    pub first: u16,
+    pub second: u16,
+    pub power: u16,
+}
+
+// A legal row with the inverse of its power where its kind is M, computed once, since a row is applied to many Paulis.
+pub struct Ready {
+    pub row: Row,
+    pub inverse: Residue,
+}
+
+// Whether x is low to high.
+fn within(low: usize, high: usize, x: usize) -> bool
+    ensures { λ r. ⌜ r ≡ between low high x ⌝ }
+{
+    if x < low {
+        return false;
+    }
+    x <= high
+}
+
+// The highest legal power of a kind: 0 where there is no such kind.
+pub fn highest_power(kind: u16, d: u16) -> u16
+    requires { ⌜ Dimension d ⌝ }
+    ensures { λ r. ⌜ r ≡ highest d kind ⌝ }
+{
+    match kind {
+        1 => 3,
+        2 => 2 * d - 1,
+        3 => d - 1,
+        4 => d - 1,
+        5 => d - 1,
+        6 => d - 1,
+        _ => 0,
+    }
+}
+
+impl Row {
+    // The power is 1 to the kind's highest, for M a unit.
+    fn legal_power(self, d: u16) -> bool
+        requires { ⌜ Dimension d ⌝ }
+        ensures { λ r. ⌜ r ≡ legalPower d (self .kind) (self .power) ⌝ }
+    {
+        let kind = self.kind;
+        let high = highest_power(kind, d);
+        if within(1, high as usize, self.power as usize) {
+            match kind {
+                4 => arith::divisor::is_unit(Residue(self.power), d),
+                _ => true,
+            }
+        } else {
+            false
+        }
+    }
+
+    // The second qudit is 0, or for A is 1 to n and not the first.
+    fn legal_second(self, n: usize) -> bool
+        ensures { λ r. ⌜ r ≡ legalSecond n (self .kind) (self .first) (self .second) ⌝ }
+    {
+        let kind = self.kind;
+        match kind {
+            3 => {
+                if within(1, n, self.second as usize) {
+                    self.second != self.first
+                } else {
+                    false
+                }
+            }
+            _ => self.second == 0,
+        }
+    }
+
+    // Whether the row is legal.
+    pub fn legal(self, d: u16, n: usize) -> bool
+        requires { ⌜ Dimension d ⌝ }
+        ensures { λ r. ⌜ r ≡ legalRow d n (viewRow self) ⌝ }
+    {
+        if self.legal_power(d) {
+            if within(1, n, self.first as usize) {
+                return self.legal_second(n);
+            }
+        }
+        false
+    }
+
+    // The row with what its effect needs besides.
+    pub fn ready(self, d: u16) -> Ready
+        requires { ⌜ Dimension d × (self .kind ≡ 4 → Unit d (self .power)) ⌝ }
+        ensures { λ r. ⌜ (r .row ≡ self) × InverseRight d r ⌝ }
+    {
+        let kind = self.kind;
+        match kind {
+            4 => Ready {
+                row: self,
+                inverse: arith::divisor::inverse(Residue(self.power), d),
+            },
+            _ => Ready {
+                row: self,
+                inverse: Residue(1),
+            },
+        }
+    }
+}
+
+impl Ready {
+    // What the row makes of the Pauli.
+    pub fn apply(self, p: Pauli, d: u16, n: usize) -> Pauli
+        requires { ⌜ Dimension d × (n ≤ 16) ⌝ }
+        requires { ⌜ (legalRow d n (viewRow (self .row)) ≡ true) × InverseRight d self ⌝ }
+        ensures { λ r. ⌜ view n r ≡ apply d (meant (viewRow (self .row))) (view n p) ⌝ }
+    {
+        let row = self.row;
+        let kind = row.kind;
+        let i = row.first as usize - 1;
+        let k = row.power;
+        match kind {
+            1 => p.effect_f(i, k, d),
+            2 => p.effect_s(i, k, d),
+            3 => p.effect_a(i, row.second as usize - 1, k, d),
+            4 => p.effect_m(i, k, self.inverse, d),
+            5 => p.effect_x(i, k, d),
+            6 => p.effect_z(i, k, d),
+            _ => p,
+        }
+    }
+}

@@ -136,7 +136,7 @@ powered d p k = record {
 sub-one : (k : ℕ) → suc k - 1 ≡ k
 sub-one k = omega arith
 
-next-square : (k : ℕ) → k * (k - 1) + k ≡ k * k
+pub next-square : (k : ℕ) → k * (k - 1) + k ≡ k * k
 next-square zero = refl
 next-square (suc k) = rw (sub-one k) (omega arith)
 

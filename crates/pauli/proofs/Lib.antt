@@ -1,5 +1,8 @@
 pub mod Change
 pub mod Digits
+pub mod Entries
+pub mod Examples
+pub mod RangeChecks
 pub mod Dots
 pub mod Steps
 pub mod Frame
@@ -7,6 +10,8 @@ pub mod GateExamples
 pub mod Gates
 pub mod Group
 pub mod Hom
+pub mod Encoding
+pub mod Lent
 pub mod Lists
 pub mod Onto
 pub mod Ranges

@@ -1,3 +1,6 @@
+pub mod Bytes
+pub mod Calls
 pub mod Effects
 pub mod Pauli
+pub mod Range
 pub mod View

@@ -1,5 +1,10 @@
 // Paulis: a phase modulo 2d and residues modulo d; products, powers, commutation numbers, the effect of each gate row, and the public calls on bytes.
 // Of the 16 places of v and w the first n are in use; a contract speaks of those alone (`view`).
+pub mod arrays;
+pub mod bytes;
+pub mod calls;
+pub mod operations;
+
 use arith::residue::Phase;
 use arith::residue::Residue;
 

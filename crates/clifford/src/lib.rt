@@ -1,0 +1,58 @@
+// The C interface: an entry for each public call, with the whole contract of the call that it makes. include/clifford.h has the prototypes.
+// A slice passes as a pointer and a length.
+use arith::checks::Answer;
+ghost use mathlib.Core.Path.{_≡_};
+ghost use lib.ListN.{length};
+ghost use Rattle.arith.specs.Units.{leastMultiplier};
+ghost use Rattle.arith.specs.Answers.{Answered, Written};
+ghost use Rattle.arith.specs.Calls.{multiplierRefusal};
+ghost use Rattle.pauli.specs.Calls.{productRefusal, productBytes, powerRefusal, powerBytes, commutationRefusal, commutationNumber};
+ghost use Rattle.gates.specs.Calls.{runRefusal, runBytes, ticksRefusal, ticksOf};
+
+// The least multiplier of a and b.
+#[no_mangle]
+pub extern "C" fn clifford_least_multiplier(d: u16, a: u16, b: u16) -> Answer
+    ensures { λ r. ⌜ Answered (multiplierRefusal d a b) (leastMultiplier d a b) r ⌝ }
+{
+    arith::calls::least_multiplier(d, a, b)
+}
+
+// The product of p and q, in this order.
+#[no_mangle]
+pub extern "C" fn clifford_product(d: u16, n: u16, p: &[u8], q: &[u8], out: &mut [u8]) -> u16
+    ensures { λ r. ⌜ Written (productRefusal d n (now (p .entry)) (now (q .entry)) (now (out .entry))) (productBytes d n (now (p .entry)) (now (q .entry))) (now (out .entry)) (now (out .exit)) r ⌝ }
+{
+    pauli::calls::product(d, n, p, q, out)
+}
+
+// p to the power k.
+#[no_mangle]
+pub extern "C" fn clifford_power(d: u16, n: u16, p: &[u8], k: u16, out: &mut [u8]) -> u16
+    ensures { λ r. ⌜ Written (powerRefusal d n (now (p .entry)) (now (out .entry))) (powerBytes d n (now (p .entry)) k) (now (out .entry)) (now (out .exit)) r ⌝ }
+{
+    pauli::calls::power(d, n, p, k, out)
+}
+
+// The commutation number of p and q.
+#[no_mangle]
+pub extern "C" fn clifford_commutation(d: u16, n: u16, p: &[u8], q: &[u8]) -> Answer
+    ensures { λ r. ⌜ Answered (commutationRefusal d n (now (p .entry)) (now (q .entry))) (commutationNumber d n (now (p .entry)) (now (q .entry))) r ⌝ }
+{
+    pauli::calls::commutation(d, n, p, q)
+}
+
+// What the list carries p to.
+#[no_mangle]
+pub extern "C" fn clifford_run(d: u16, n: u16, list: &[u8], p: &[u8], out: &mut [u8]) -> u16
+    ensures { λ r. ⌜ Written (runRefusal d n (now (list .entry)) (now (p .entry)) (length (now (out .entry)))) (runBytes d n (now (list .entry)) (now (p .entry))) (now (out .entry)) (now (out .exit)) r ⌝ }
+{
+    gates::calls::run(d, n, list, p, out)
+}
+
+// The ticks of the list: its number of rows.
+#[no_mangle]
+pub extern "C" fn clifford_ticks(d: u16, n: u16, list: &[u8]) -> Answer
+    ensures { λ r. ⌜ Answered (ticksRefusal d n (now (list .entry))) (ticksOf (now (list .entry))) r ⌝ }
+{
+    gates::calls::ticks(d, n, list)
+}

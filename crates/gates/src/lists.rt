@@ -1,0 +1,64 @@
+// Lists of rows in bytes, 8 bytes a row.
+use crate::Row;
+use arith::checks::Check;
+use pauli::Pauli;
+ghost use mathlib.Core.Path.{_≡_};
+ghost use mathlib.Core.Bool.{true};
+ghost use Prim.Native.Nat.{_+_, _*_, _≤_};
+ghost use lib.ListN.{length};
+ghost use Rattle.arith.specs.Refusals.{Dimension, checked, rowOf};
+ghost use Rattle.pauli.specs.View.{view};
+ghost use Rattle.gates.specs.Row.{apply, run};
+ghost use Rattle.gates.specs.Written.{meant, rowAt, listRows, rowsOf, legalRow, allLegalRows};
+ghost use Rattle.gates.specs.View.{viewRow};
+
+// Row r of the bytes.
+pub fn read_row(b: &[u8], r: usize) -> Row
+    requires { ⌜ 8 * r + 8 ≤ length (now b) ⌝ }
+    ensures { λ x. ⌜ viewRow x ≡ rowAt (now (b .entry)) r ⌝ }
+{
+    Row {
+        kind: arith::numbers::get(b, 4 * r),
+        first: arith::numbers::get(b, 4 * r + 1),
+        second: arith::numbers::get(b, 4 * r + 2),
+        power: arith::numbers::get(b, 4 * r + 3),
+    }
+}
+
+// 6, row: a row of the list isn't legal.
+pub fn list_legal(list: &[u8], d: u16, n: usize) -> Check
+    requires { ⌜ Dimension d ⌝ }
+    ensures { λ r. ⌜ r ≡ checked (rowOf (allLegalRows d n (listRows (now (list .entry))))) ⌝ }
+{
+    let rows = list.len() / 8;
+    for r in 0..rows {
+        let row = read_row(list, r);
+        if !row.legal(d, n) {
+            return Check::Refused(6);
+        }
+    }
+    Check::Good
+}
+
+// What row r of the bytes makes of the Pauli.
+fn run_row(list: &[u8], r: usize, p: Pauli, d: u16, n: usize) -> Pauli
+    requires { ⌜ Dimension d × ((n ≤ 16) × (8 * r + 8 ≤ length (now list))) ⌝ }
+    requires { ⌜ legalRow d n (rowAt (now list) r) ≡ true ⌝ }
+    ensures { λ q. ⌜ view n q ≡ apply d (meant (rowAt (now (list .entry)) r)) (view n p) ⌝ }
+{
+    read_row(list, r).ready(d).apply(p, d, n)
+}
+
+// What the list carries the Pauli to: each row takes what the one before it handed on.
+pub fn run_list(list: &[u8], p: Pauli, d: u16, n: usize) -> Pauli
+    requires { ⌜ Dimension d × (n ≤ 16) ⌝ }
+    requires { ⌜ allLegalRows d n (listRows (now list)) ≡ true ⌝ }
+    ensures { λ q. ⌜ view n q ≡ run d (rowsOf (now (list .entry))) (view n p) ⌝ }
+{
+    let rows = list.len() / 8;
+    let mut q = p;
+    for r in 0..rows {
+        q = run_row(list, r, q, d, n);
+    }
+    q
+}

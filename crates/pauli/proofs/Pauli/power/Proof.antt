@@ -1,0 +1,56 @@
+-- `pauli::Pauli::power` meets its contract: the closed form (`power-closed`), whose phase has w·v times an even number.
+use mathlib.Core.Path.{_≡_, sym, _∙_}
+use mathlib.Core.List.{[], _∷_}
+use Prim.Native.Nat.{ℕ, zero, suc, _+_, _*_, _-_, _%_, _^_, _≤_, _<_}
+use native.Mathlib.Nat.{mul-le-mul, mul-assoc}
+use Rattle.arith.proofs.Cong.{Cong}
+use Rattle.arith.proofs.Ring.{ring₂, quote}
+use Rattle.pauli.proofs.Entries.{scaled-tab}
+use Rattle.pauli.proofs.Group.{power-closed, next-square}
+use Rattle.pauli.proofs.Ranges.{pauli-path}
+use native.Mathlib.Omega.{arith}
+use borrow.Author.Needs.{needs}
+use Rattle.pauli.proofs.Pauli.power.Statement.{statement}
+use Rattle.pauli.proofs.Pauli.power.Tie as tie
+
+-- k·(k − 1) is even
+even : (k : ℕ) → (m : ℕ) × (k * (k - 1) ≡ 2 * m)
+even k = let z = half k in (z .0, omega (arith, z .1, next-square k))
+  where
+    half : (k : ℕ) → (m : ℕ) × (k * k ≡ k + 2 * m)
+    half zero = (0, omega arith)
+    half (suc k) = let z = half k in (z .0 + k, omega (arith, z .1))
+
+even-twist : (d k h m x : ℕ) → 0 < d → Cong (2 * d) (k * h % (2 * d) + 2 * (m * (x % d)) % (2 * d)) (k * h + 2 * (m * x))
+even-twist d k h m x pos = ring₂ d (k ∷ h ∷ m ∷ x ∷ []) pos (search quote depth 30) (search quote depth 30) tt
+
+power-phase : (d k h : ℕ) {r p q o t s x : ℕ} → 0 < d → r ≡ (p + q) % (2 * d) → p ≡ k * h % (2 * d) → q ≡ o * t % (2 * d) → o ≡ k * (k - 1) → t ≡ s % d → s ≡ x → r ≡ (k * h + k * (k - 1) * x) % (2 * d)
+power-phase d k h {x = x} pos e f g i j l =
+    let z = even k in
+    rw (e, f, g, i, j, l, z .1, mul-assoc 2 (z .0) (x % d), mul-assoc 2 (z .0) x) (even-twist d k h (z .0) x pos .same)
+
+twists-below : (o t : ℕ) → o < 4294967296 → t < 65536 → o * t < 2 ^ 64
+twists-below o t ho ht =
+    let a : o ≤ 4294967295 = omega arith in
+    let b : t ≤ 65535 = omega arith in
+    omega (arith, mul-le-mul a b)
+
+mul-reduced : tie.Need-mul-reduced
+mul-reduced c = omega (arith, twists-below (c .before .ordered-pairs .result) (c .before .before .reduced .result .0) (c .before .ordered-pairs .ensures .1) (search needs))
+
+pub power-spec : {M : Type 1} → statement M
+power-spec = tie.close (tie.spec
+    (λ c κs. search needs)  -- sum-of-products-requires
+    (λ c κs. search needs)  -- reduced-requires
+    (λ c κs. search needs)  -- ordered-pairs-requires
+    (λ c. search needs)  -- cast-reduced
+    mul-reduced
+    (λ c κs. search needs)  -- reduced-requires-2
+    (λ c κs. search needs)  -- times-requires
+    (λ c κs. search needs)  -- plus-requires
+    (λ c κs. search needs)  -- multiples-requires
+    (λ c κs. search needs)  -- multiples-requires-2
+    (λ c. let a = c .before .before .before .before .before .before .before .before .before .before .before .before .args in
+    pauli-path (power-phase _ _ _ (omega arith) (c .before .before .plus .ensures) (c .before .before .before .times .ensures) (c .before .before .before .before .before .reduced2 .ensures) (c .before .before .before .before .before .before .before .ordered-pairs .ensures .0) (c .before .before .before .before .before .before .before .before .reduced .ensures) (c .before .before .before .before .before .before .before .before .before .sum-of-products .ensures .0))
+    (c .before .multiples .ensures ∙ sym (scaled-tab _ _ _ _)) (c .multiples2 .ensures ∙ sym (scaled-tab _ _ _ _))
+    ∙ sym (power-closed (a .d) (a .n) (a .k) (omega arith) (c .before .before .before .before .before .before .before .before .before .before .before .before .pre .1))))  -- returns

@@ -1,0 +1,42 @@
+-- The public calls on Paulis in bytes: each call's refusal, in the order of document 01's table, and its answer.
+use mathlib.Core.List.{List}
+use Prim.Native.Nat.{ℕ}
+use lib.ListN.{length}
+use Rattle.arith.specs.Refusals.{orElse, givenOf, sizeOf, roomOf}
+use Rattle.pauli.specs.Pauli.{product, power, comm}
+use Rattle.pauli.specs.Bytes.{pauliBytes, decode, encode}
+use Rattle.pauli.specs.Range.{pauliRangeOf, pairRangeOf}
+
+-- ---- product of p and q, in this order: 1, 2, 3 of p and of q, 4, 5 of p and of q
+abbrev pub productRefusal : ℕ → ℕ → List ℕ → List ℕ → List ℕ → ℕ
+productRefusal d n p q out =
+    orElse (givenOf d n)
+    (orElse (sizeOf (pauliBytes n) (length p))
+    (orElse (sizeOf (pauliBytes n) (length q))
+    (orElse (roomOf (pauliBytes n) (length out))
+    (pairRangeOf d (decode n p) (decode n q)))))
+
+abbrev pub productBytes : ℕ → ℕ → List ℕ → List ℕ → List ℕ
+productBytes d n p q = encode (product d (decode n p) (decode n q))
+
+-- ---- power k of p: 1, 2, 3, 4, 5; no k is refused
+abbrev pub powerRefusal : ℕ → ℕ → List ℕ → List ℕ → ℕ
+powerRefusal d n p out =
+    orElse (givenOf d n)
+    (orElse (sizeOf (pauliBytes n) (length p))
+    (orElse (roomOf (pauliBytes n) (length out))
+    (pauliRangeOf d (decode n p))))
+
+abbrev pub powerBytes : ℕ → ℕ → List ℕ → ℕ → List ℕ
+powerBytes d n p k = encode (power d n (decode n p) k)
+
+-- ---- commutation number of p and q: 1, 2, 3 of p and of q, 5 of p and of q
+abbrev pub commutationRefusal : ℕ → ℕ → List ℕ → List ℕ → ℕ
+commutationRefusal d n p q =
+    orElse (givenOf d n)
+    (orElse (sizeOf (pauliBytes n) (length p))
+    (orElse (sizeOf (pauliBytes n) (length q))
+    (pairRangeOf d (decode n p) (decode n q))))
+
+abbrev pub commutationNumber : ℕ → ℕ → List ℕ → List ℕ → ℕ
+commutationNumber d n p q = comm d (decode n p) (decode n q)

@@ -1,0 +1,112 @@
+// The public calls on Paulis in bytes: the checks in the order of the table, then the work.
+use crate::Pauli;
+use arith::checks::Answer;
+use arith::checks::Check;
+ghost use mathlib.Core.Path.{_≡_};
+ghost use Rattle.arith.specs.Refusals.{checked, orElse, givenOf, sizeOf, roomOf};
+ghost use Rattle.arith.specs.Answers.{Answered, Written};
+ghost use Rattle.pauli.specs.Bytes.{pauliBytes};
+ghost use Rattle.pauli.specs.Calls.{productRefusal, productBytes, powerRefusal, powerBytes, commutationRefusal, commutationNumber};
+
+// 1 and 2, then 3 of each of two Paulis, whose bytes are as many as `first` and `second` say.
+fn commutation_check(d: u16, n: u16, first: usize, second: usize) -> Check
+    ensures { λ r. ⌜ r ≡ checked (orElse (givenOf d n) (orElse (sizeOf (pauliBytes n) first) (sizeOf (pauliBytes n) second))) ⌝ }
+{
+    let given = arith::checks::given(d, n);
+    let Check::Good = given else {
+        return given;
+    };
+    let want = 2 * (1 + 2 * (n as usize));
+    let of_p = arith::checks::size(want, first);
+    let Check::Good = of_p else {
+        return of_p;
+    };
+    arith::checks::size(want, second)
+}
+
+// 1 and 2, then 3 of each of two Paulis, then 4 of an output.
+fn product_check(d: u16, n: u16, first: usize, second: usize, room: usize) -> Check
+    ensures { λ r. ⌜ r ≡ checked (orElse (givenOf d n) (orElse (sizeOf (pauliBytes n) first) (orElse (sizeOf (pauliBytes n) second) (roomOf (pauliBytes n) room)))) ⌝ }
+{
+    let found = commutation_check(d, n, first, second);
+    let Check::Good = found else {
+        return found;
+    };
+    arith::checks::room(2 * (1 + 2 * (n as usize)), room)
+}
+
+// 1 and 2, then 3 of a Pauli, then 4 of an output.
+fn power_check(d: u16, n: u16, size: usize, room: usize) -> Check
+    ensures { λ r. ⌜ r ≡ checked (orElse (givenOf d n) (orElse (sizeOf (pauliBytes n) size) (roomOf (pauliBytes n) room))) ⌝ }
+{
+    let given = arith::checks::given(d, n);
+    let Check::Good = given else {
+        return given;
+    };
+    let want = 2 * (1 + 2 * (n as usize));
+    let length = arith::checks::size(want, size);
+    let space = arith::checks::room(want, room);
+    let Check::Good = length else {
+        return length;
+    };
+    space
+}
+
+// The product of p and q, in this order.
+pub fn product(d: u16, n: u16, p: &[u8], q: &[u8], out: &mut [u8]) -> u16
+    ensures { λ r. ⌜ Written (productRefusal d n (now (p .entry)) (now (q .entry)) (now (out .entry))) (productBytes d n (now (p .entry)) (now (q .entry))) (now (out .entry)) (now (out .exit)) r ⌝ }
+{
+    let found = product_check(d, n, p.len(), q.len(), out.len());
+    let Check::Good = found else {
+        return arith::checks::number(found);
+    };
+    let m = n as usize;
+    let first = Pauli::read(p, 0, m);
+    let second = Pauli::read(q, 0, m);
+    let ranged = first.pair_range(second, d, m);
+    let Check::Good = ranged else {
+        return arith::checks::number(ranged);
+    };
+    first.product(second, d, m).write(out, 0, m);
+    0
+}
+
+// The product of k copies of p.
+pub fn power(d: u16, n: u16, p: &[u8], k: u16, out: &mut [u8]) -> u16
+    ensures { λ r. ⌜ Written (powerRefusal d n (now (p .entry)) (now (out .entry))) (powerBytes d n (now (p .entry)) k) (now (out .entry)) (now (out .exit)) r ⌝ }
+{
+    let found = power_check(d, n, p.len(), out.len());
+    let Check::Good = found else {
+        return arith::checks::number(found);
+    };
+    let m = n as usize;
+    let base = Pauli::read(p, 0, m);
+    let ranged = base.range(d, m);
+    let Check::Good = ranged else {
+        return arith::checks::number(ranged);
+    };
+    base.power(k, d, m).write(out, 0, m);
+    0
+}
+
+// The commutation number of p and q.
+pub fn commutation(d: u16, n: u16, p: &[u8], q: &[u8]) -> Answer
+    ensures { λ r. ⌜ Answered (commutationRefusal d n (now (p .entry)) (now (q .entry))) (commutationNumber d n (now (p .entry)) (now (q .entry))) r ⌝ }
+{
+    let found = commutation_check(d, n, p.len(), q.len());
+    let Check::Good = found else {
+        return arith::calls::refused(found);
+    };
+    let m = n as usize;
+    let first = Pauli::read(p, 0, m);
+    let second = Pauli::read(q, 0, m);
+    let ranged = first.pair_range(second, d, m);
+    let Check::Good = ranged else {
+        return arith::calls::refused(ranged);
+    };
+    let value = first.commutation(second, d, m);
+    Answer {
+        number: 0,
+        value: value.0,
+    }
+}

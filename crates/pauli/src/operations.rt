@@ -1,0 +1,155 @@
+// Operations on Paulis: products, powers, commutation numbers, and the Paulis that these start from. The Pauli in work is one value that each takes and hands on.
+use crate::Pauli;
+use arith::checks::Check;
+use arith::residue::Phase;
+use arith::residue::Residue;
+ghost use mathlib.Core.Path.{_≡_};
+ghost use Prim.Native.Nat.{ℕ, _*_, _-_, _≤_, _<_};
+ghost use Rattle.arith.specs.Refusals.{Dimension, checked};
+ghost use Rattle.pauli.specs.Pauli.{InRange, product, phaseOnly, power, comm, unit, parity};
+ghost use Rattle.pauli.specs.Range.{pauliRangeOf, pairRangeOf};
+ghost use Rattle.pauli.specs.View.{view};
+
+// k·(k − 1): the pairs of two of k copies, each pair in both orders. An even number.
+fn ordered_pairs(k: u16) -> u64
+    ensures { λ r. ⌜ (r ≡ k * (k - 1)) × (r < 4294967296) ⌝ }
+{
+    let copies = k as u64;
+    copies * copies - copies
+}
+
+impl Pauli {
+    // A phase and nothing else.
+    pub fn phase_only(h: Phase) -> Pauli
+        ensures { λ r. ⌜ ((n : ℕ) → view n r ≡ phaseOnly n (h .0)) ⌝ }
+    {
+        Pauli {
+            phase: h,
+            v: [Residue(0); 16],
+            w: [Residue(0); 16],
+        }
+    }
+
+    // Unit Pauli j, counted from 0: v at j is 1 below n, w at j − n is 1 from n on.
+    pub fn unit(j: usize, n: usize) -> Pauli
+        requires { ⌜ (n ≤ 16) × (j < 2 * n) ⌝ }
+        ensures { λ r. ⌜ view n r ≡ unit n j ⌝ }
+    {
+        let zeros = [Residue(0); 16];
+        let mut one = [Residue(0); 16];
+        if j < n {
+            one[j] = Residue(1);
+            return Pauli {
+                phase: Phase(0),
+                v: one,
+                w: zeros,
+            };
+        }
+        one[j - n] = Residue(1);
+        Pauli {
+            phase: Phase(0),
+            v: zeros,
+            w: one,
+        }
+    }
+
+    // (δ, v, w) times (ε, s, t): phase δ + ε + 2·(w·s), entries v + s and w + t.
+    pub fn product(self, other: Pauli, d: u16, n: usize) -> Pauli
+        requires { ⌜ Dimension d × (n ≤ 16) ⌝ }
+        ensures { λ r. ⌜ view n r ≡ product d (view n self) (view n other) ⌝ }
+    {
+        let v = self.v;
+        let w = self.w;
+        let s = other.v;
+        let t = other.w;
+        let twist = Phase::reduced(2 * crate::arrays::sum_of_products(w, s, n), d);
+        let delta = self.phase;
+        let epsilon = other.phase;
+        let phase = delta.plus(epsilon, d).plus(twist, d);
+        let vs = crate::arrays::sums(v, s, d, n);
+        let wt = crate::arrays::sums(w, t, d, n);
+        Pauli {
+            phase: phase,
+            v: vs,
+            w: wt,
+        }
+    }
+
+    // The product of k copies, at once: phase k·δ + k·(k − 1)·(w·v), entries k·v and k·w. As k·(k − 1) is even, w·v may be reduced modulo d there.
+    pub fn power(self, k: u16, d: u16, n: usize) -> Pauli
+        requires { ⌜ Dimension d × (n ≤ 16) ⌝ }
+        requires { ⌜ InRange d n (view n self) ⌝ }
+        ensures { λ r. ⌜ view n r ≡ power d n (view n self) k ⌝ }
+    {
+        let v = self.v;
+        let w = self.w;
+        let twist = Residue::reduced(crate::arrays::sum_of_products(w, v, n), d);
+        let twists = Phase::reduced(ordered_pairs(k) * (twist.0 as u64), d);
+        let delta = self.phase;
+        let phase = delta.times(k, d).plus(twists, d);
+        let kv = crate::arrays::multiples(k, v, d, n);
+        let kw = crate::arrays::multiples(k, w, d, n);
+        Pauli {
+            phase: phase,
+            v: kv,
+            w: kw,
+        }
+    }
+
+    // The commutation number of (δ, v, w) and (ε, s, t): w·s − v·t.
+    pub fn commutation(self, other: Pauli, d: u16, n: usize) -> Residue
+        requires { ⌜ Dimension d × (n ≤ 16) ⌝ }
+        ensures { λ r. ⌜ r .0 ≡ comm d (view n self) (view n other) ⌝ }
+    {
+        let v = self.v;
+        let w = self.w;
+        let s = other.v;
+        let t = other.w;
+        let ws = Residue::reduced(crate::arrays::sum_of_products(w, s, n), d);
+        let vt = Residue::reduced(crate::arrays::sum_of_products(v, t, n), d);
+        ws.minus(vt, d)
+    }
+
+    // The number δ + (d − 1)·(w·v) modulo 2, which is 0 where the d-th power is the identity.
+    pub fn parity(self, d: u16, n: usize) -> u16
+        requires { ⌜ Dimension d × (n ≤ 16) ⌝ }
+        ensures { λ r. ⌜ r ≡ parity d (view n self) ⌝ }
+    {
+        let v = self.v;
+        let w = self.w;
+        let delta = self.phase;
+        let sum = crate::arrays::sum_of_products(w, v, n);
+        arith::residue::remainder((delta.0 as u64) + ((d as u64) - 1) * sum, 2)
+    }
+
+    // 5: the phase below 2d, then every v and every w below d.
+    pub fn range(self, d: u16, n: usize) -> Check
+        requires { ⌜ Dimension d × (n ≤ 16) ⌝ }
+        ensures { λ r. ⌜ r ≡ checked (pauliRangeOf d (view n self)) ⌝ }
+    {
+        let phase = self.phase;
+        let v = self.v;
+        let w = self.w;
+        let of_phase = arith::checks::range(2 * d, phase.0);
+        let Check::Good = of_phase else {
+            return of_phase;
+        };
+        let of_v = crate::arrays::bounds(v, d, n);
+        let Check::Good = of_v else {
+            return of_v;
+        };
+        crate::arrays::bounds(w, d, n)
+    }
+
+    // 5 of this Pauli, then of the other.
+    pub fn pair_range(self, other: Pauli, d: u16, n: usize) -> Check
+        requires { ⌜ Dimension d × (n ≤ 16) ⌝ }
+        ensures { λ r. ⌜ r ≡ checked (pairRangeOf d (view n self) (view n other)) ⌝ }
+    {
+        let of_self = self.range(d, n);
+        let Check::Good = of_self else {
+            return of_self;
+        };
+        other.range(d, n)
+    }
+}
