@@ -8,6 +8,7 @@ ghost use Rattle.arith.specs.Answers.{Answered, Written};
 ghost use Rattle.arith.specs.Calls.{multiplierRefusal};
 ghost use Rattle.pauli.specs.Calls.{productRefusal, productBytes, powerRefusal, powerBytes, commutationRefusal, commutationNumber};
 ghost use Rattle.gates.specs.Calls.{runRefusal, runBytes, ticksRefusal, ticksOf};
+ghost use Rattle.tableau.specs.Calls.{tableauRefusal, tableauAnswer, imageRefusal, imageAnswer, composeRefusal, composeAnswer, inverseRefusal, inverseAnswer};
 
 // The least multiplier of a and b.
 #[no_mangle]
@@ -20,7 +21,7 @@ pub extern "C" fn clifford_least_multiplier(d: u16, a: u16, b: u16) -> Answer
 // The product of p and q, in this order.
 #[no_mangle]
 pub extern "C" fn clifford_product(d: u16, n: u16, p: &[u8], q: &[u8], out: &mut [u8]) -> u16
-    ensures { λ r. ⌜ Written (productRefusal d n (now (p .entry)) (now (q .entry)) (now (out .entry))) (productBytes d n (now (p .entry)) (now (q .entry))) (now (out .entry)) (now (out .exit)) r ⌝ }
+    ensures { λ r. ⌜ Written (productRefusal d n (now (p .entry)) (now (q .entry)) (length (now (out .entry)))) (productBytes d n (now (p .entry)) (now (q .entry))) (now (out .entry)) (now (out .exit)) r ⌝ }
 {
     pauli::calls::product(d, n, p, q, out)
 }
@@ -28,7 +29,7 @@ pub extern "C" fn clifford_product(d: u16, n: u16, p: &[u8], q: &[u8], out: &mut
 // p to the power k.
 #[no_mangle]
 pub extern "C" fn clifford_power(d: u16, n: u16, p: &[u8], k: u16, out: &mut [u8]) -> u16
-    ensures { λ r. ⌜ Written (powerRefusal d n (now (p .entry)) (now (out .entry))) (powerBytes d n (now (p .entry)) k) (now (out .entry)) (now (out .exit)) r ⌝ }
+    ensures { λ r. ⌜ Written (powerRefusal d n (now (p .entry)) (length (now (out .entry)))) (powerBytes d n (now (p .entry)) k) (now (out .entry)) (now (out .exit)) r ⌝ }
 {
     pauli::calls::power(d, n, p, k, out)
 }
@@ -47,6 +48,38 @@ pub extern "C" fn clifford_run(d: u16, n: u16, list: &[u8], p: &[u8], out: &mut 
     ensures { λ r. ⌜ Written (runRefusal d n (now (list .entry)) (now (p .entry)) (length (now (out .entry)))) (runBytes d n (now (list .entry)) (now (p .entry))) (now (out .entry)) (now (out .exit)) r ⌝ }
 {
     gates::calls::run(d, n, list, p, out)
+}
+
+// The tableau of the list.
+#[no_mangle]
+pub extern "C" fn clifford_tableau(d: u16, n: u16, list: &[u8], out: &mut [u8]) -> u16
+    ensures { λ r. ⌜ Written (tableauRefusal d n (now (list .entry)) (length (now (out .entry)))) (tableauAnswer d n (now (list .entry))) (now (out .entry)) (now (out .exit)) r ⌝ }
+{
+    tableau::calls::tableau_of(d, n, list, out)
+}
+
+// The image of p under the tableau.
+#[no_mangle]
+pub extern "C" fn clifford_image(d: u16, n: u16, tableau: &[u8], p: &[u8], out: &mut [u8]) -> u16
+    ensures { λ r. ⌜ Written (imageRefusal d n (now (tableau .entry)) (now (p .entry)) (length (now (out .entry)))) (imageAnswer d n (now (tableau .entry)) (now (p .entry))) (now (out .entry)) (now (out .exit)) r ⌝ }
+{
+    tableau::calls::image(d, n, tableau, p, out)
+}
+
+// The first tableau, then the second.
+#[no_mangle]
+pub extern "C" fn clifford_compose(d: u16, n: u16, first: &[u8], second: &[u8], out: &mut [u8]) -> u16
+    ensures { λ r. ⌜ Written (composeRefusal d n (now (first .entry)) (now (second .entry)) (length (now (out .entry)))) (composeAnswer d n (now (first .entry)) (now (second .entry))) (now (out .entry)) (now (out .exit)) r ⌝ }
+{
+    tableau::calls::compose(d, n, first, second, out)
+}
+
+// The tableau that undoes the given one.
+#[no_mangle]
+pub extern "C" fn clifford_inverse(d: u16, n: u16, tableau: &[u8], out: &mut [u8]) -> u16
+    ensures { λ r. ⌜ Written (inverseRefusal d n (now (tableau .entry)) (length (now (out .entry)))) (inverseAnswer d n (now (tableau .entry))) (now (out .entry)) (now (out .exit)) r ⌝ }
+{
+    tableau::calls::inverse(d, n, tableau, out)
 }
 
 // The ticks of the list: its number of rows.

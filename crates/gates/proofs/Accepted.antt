@@ -5,7 +5,7 @@ use mathlib.Core.List.{List}
 use Prim.Native.Nat.{ℕ, _*_, _%_, _≤_}
 use native.Mathlib.Omega.{arith}
 use lib.ListN.{length}
-use Rattle.arith.specs.Refusals.{orElse, givenOf, sizeOf, listSizeOf, roomOf, rowOf}
+use Rattle.arith.specs.Refusals.{givenOf, sizeOf, listSizeOf, roomOf}
 use Rattle.arith.proofs.Refusals.{Given, orElse-none, given-good, size-good, list-size-good, room-good, row-good}
 use Rattle.pauli.specs.Pauli.{InRange}
 use Rattle.pauli.specs.Bytes.{pauliBytes, decode}

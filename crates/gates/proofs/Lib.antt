@@ -1,4 +1,5 @@
 pub mod Accepted
+pub mod Examples
 pub mod Kept
 pub mod Rows
 pub mod Run

@@ -16,15 +16,15 @@ fn run_check(d: u16, n: u16, list: &[u8], p: &[u8], room: usize) -> Check
     let Check::Good = of_given else {
         return of_given;
     };
-    let of_list = arith::checks::list_size(list.len());
-    let Check::Good = of_list else {
-        return of_list;
+    let of_rows = arith::checks::list_size(list.len());
+    let Check::Good = of_rows else {
+        return of_rows;
     };
     let m = n as usize;
     let want = 2 * (1 + 2 * m);
-    let of_size = arith::checks::size(want, p.len());
-    let Check::Good = of_size else {
-        return of_size;
+    let of_p = arith::checks::size(want, p.len());
+    let Check::Good = of_p else {
+        return of_p;
     };
     let of_room = arith::checks::room(want, room);
     let Check::Good = of_room else {

@@ -4,12 +4,12 @@ use arith::checks::Check;
 use pauli::Pauli;
 ghost use mathlib.Core.Path.{_≡_};
 ghost use mathlib.Core.Bool.{true};
-ghost use Prim.Native.Nat.{_+_, _*_, _≤_};
+ghost use Prim.Native.Nat.{_+_, _*_, _/_, _≤_, _<_};
 ghost use lib.ListN.{length};
 ghost use Rattle.arith.specs.Refusals.{Dimension, checked, rowOf};
 ghost use Rattle.pauli.specs.View.{view};
 ghost use Rattle.gates.specs.Row.{apply, run};
-ghost use Rattle.gates.specs.Written.{meant, rowAt, listRows, rowsOf, legalRow, allLegalRows};
+ghost use Rattle.gates.specs.Written.{meant, rowAt, listRows, rowsOf, allLegalRows};
 ghost use Rattle.gates.specs.View.{viewRow};
 
 // Row r of the bytes.
@@ -40,10 +40,10 @@ pub fn list_legal(list: &[u8], d: u16, n: usize) -> Check
     Check::Good
 }
 
-// What row r of the bytes makes of the Pauli.
+// What row r of the list makes of the Pauli.
 fn run_row(list: &[u8], r: usize, p: Pauli, d: u16, n: usize) -> Pauli
-    requires { ⌜ Dimension d × ((n ≤ 16) × (8 * r + 8 ≤ length (now list))) ⌝ }
-    requires { ⌜ legalRow d n (rowAt (now list) r) ≡ true ⌝ }
+    requires { ⌜ Dimension d × ((n ≤ 16) × (r < length (now list) / 8)) ⌝ }
+    requires { ⌜ allLegalRows d n (listRows (now list)) ≡ true ⌝ }
     ensures { λ q. ⌜ view n q ≡ apply d (meant (rowAt (now (list .entry)) r)) (view n p) ⌝ }
 {
     read_row(list, r).ready(d).apply(p, d, n)

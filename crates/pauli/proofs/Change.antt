@@ -1,25 +1,24 @@
 -- What the code of a gate row changes: the arrays it has, an entry stored in one, and the numbers that it computes in reduced steps. Assumes nothing.
-use mathlib.Core.Path.{_≡_, sym, _∙_, ap}
+use mathlib.Core.Path.{_≡_, _∙_, ap}
 use mathlib.Core.List.{List, [], _∷_}
 use Prim.Native.Nat.{ℕ, _+_, _*_, _%_, _≤_, _<_}
 use native.Mathlib.Nat.{mul-comm}
 use native.Mathlib.Numerals.{add-one}
 use native.Mathlib.Omega.{arith}
-use lib.ListN.{length, getD, set, length-set, length-map}
-use lib.Seq.{getD-set-same, getD-set-other, ext-getD}
+use lib.ListN.{length, getD, set, length-map}
 use mir.Val.{Val}
 use denote.Laws.{Is}
 use denote.Struct.Declared.{row}
 use Rattle.arith.specs.Residues.{neg}
 use Rattle.arith.specs.declared.residue.Residue.{Residue}
-use Rattle.arith.proofs.Bytes.{tab-at, tab-length}
-use Rattle.arith.proofs.Cases.{by-eq}
+use Rattle.arith.proofs.Bytes.{tab-at}
 use Rattle.arith.proofs.Cong.{Cong}
 use Rattle.arith.proofs.Ring.{ring₁, ring₂, quote}
 use Rattle.pauli.specs.declared.Pauli.{Pauli as Code}
 use Rattle.pauli.specs.Pauli.{Pauli}
 use Rattle.pauli.specs.View.{at, entries}
 use Rattle.pauli.specs.Effects.{times}
+use Rattle.pauli.proofs.Entries.{entries-set}
 use Rattle.pauli.proofs.Pauli.{the-type}
 
 -- ---- the arrays of a Pauli that the code has are of 16 entries
@@ -36,25 +35,8 @@ module _ {n i : ℕ} (xs : List Residue) (l : i < n) where
   entry = tab-at (at xs) n i 0 l
 
   -- the number y stored
-  module _ {x : Residue} {y : ℕ} (m : n ≤ 16) (e : length xs ≡ 16) (q : x .0 ≡ y) where
-    old : List ℕ
-    old = entries n xs
-
-    old-length : length old ≡ n
-    unfolding old
-    old-length = tab-length (at xs) n
-
-    same : (k : ℕ) → k < n → at (set xs i x) k ≡ getD (set old i y) k 0
-    unfolding old
-    same k h = by-eq k i
-        (λ p. rw p (ap (λ (z : Residue). z .0) (getD-set-same xs i x (record { 0 = 0 }) (omega arith)) ∙ q ∙ sym (getD-set-same old i y 0 (rw old-length l))))
-        (λ ne. ap (λ (z : Residue). z .0) (getD-set-other xs i k x (record { 0 = 0 }) ne) ∙ sym (getD-set-other old i k y 0 ne ∙ tab-at (at xs) n k 0 h))
-
-    pub stored : entries n (set xs i x) ≡ set (entries n xs) i y
-    unfolding old
-    stored = ext-getD 0 (entries n (set xs i x)) (set old i y) (tab-length _ n ∙ sym (length-set old i y ∙ old-length)) (λ k h.
-        let m : k < n = rw (tab-length (at (set xs i x)) n) at h in
-        tab-at (at (set xs i x)) n k 0 m ∙ same k m)
+  pub stored : {x : Residue} {y : ℕ} → n ≤ 16 → length xs ≡ 16 → x .0 ≡ y → entries n (set xs i x) ≡ set (entries n xs) i y
+  stored {x} m e q = entries-set n xs i x (omega arith) ∙ ap (λ (z : ℕ). set (entries n xs) i z) q
 
 -- ---- the numbers, as the code computes them and as the definitions have them
 module _ (d k : ℕ) (large : 2 ≤ d) where

@@ -1,6 +1,6 @@
 -- The frame law of each kind of row: a Pauli that is zero at the row's qudits does not change.
 use mathlib.Core.Path.{_≡_, refl, sym, _∙_, ap}
-use Prim.Native.Nat.{ℕ, zero, suc, _*_, _%_, _<_}
+use Prim.Native.Nat.{ℕ, zero, suc, _%_, _<_}
 use native.Mathlib.Nat.{zero-mod}
 use native.Mathlib.Omega.{arith}
 use lib.ListN.{getD}
@@ -9,7 +9,7 @@ use Rattle.arith.proofs.Remainders.{idle, neg-none, mul-none, neg-zero}
 use Rattle.arith.specs.Units.{inverseOf}
 use Rattle.pauli.specs.Pauli.{Pauli, InRange, phaseOnly}
 use Rattle.pauli.proofs.Lists.{getD-zeros, set-back}
-use Rattle.pauli.proofs.Ranges.{pauli-path, phaseOnly-range, w-less, v-less}
+use Rattle.pauli.proofs.Ranges.{pauli-path, w-less, v-less}
 use Rattle.pauli.specs.Effects.{fourier, times, effectF, effectS, effectA, effectM, effectX, effectZ}
 
 pub record ZeroAt (i : ℕ) (p : Pauli) : Type 0 where

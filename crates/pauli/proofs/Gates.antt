@@ -1,5 +1,5 @@
 -- Each kind of row, with all that the upper crates use of it: one record, filled in for each kind. A new kind adds one entry.
-use mathlib.Core.Path.{_≡_, refl}
+use mathlib.Core.Path.{_≡_}
 use mathlib.Core.Logic.{_≢_}
 use Prim.Native.Nat.{ℕ, zero, suc, _*_, _-_, _≤_, _<_}
 use native.Mathlib.Omega.{arith}

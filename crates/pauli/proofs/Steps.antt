@@ -3,7 +3,7 @@
 use mathlib.Core.Path.{_≡_, refl, sym, ap}
 use mathlib.Core.List.{[], _∷_}
 use mathlib.Core.Logic.{_≢_}
-use Prim.Native.Nat.{ℕ, zero, suc, _+_, _*_, _%_, _<_}
+use Prim.Native.Nat.{ℕ, _+_, _*_, _%_, _<_}
 use native.Mathlib.Nat.{mod-lt}
 use native.Mathlib.Omega.{arith}
 use lib.ListN.{getD, set}
@@ -14,14 +14,13 @@ use Rattle.arith.proofs.Remainders.{idle}
 use Rattle.arith.specs.Gcd.{gcd}
 use Rattle.arith.specs.Units.{inverseOf}
 use Rattle.arith.proofs.Units.{inverse-times}
-use Rattle.pauli.specs.Pauli.{dot, plus, Pauli}
+use Rattle.pauli.specs.Pauli.{dot, plus}
 use Rattle.pauli.proofs.Sums.{getD-plus, plus-set}
 use Rattle.pauli.proofs.Dots.{dot-set-l, dot-set, dot-set-apart}
 use Rattle.pauli.proofs.Ranges.{set-w-range, phase-range, set-v-range, v-less, in-w, in-v, phaseOnly-range}
-use Rattle.pauli.proofs.Hom.{Hom, hom-id, hom-then}
 use Rattle.pauli.specs.Effects.{fourier, effectS, effectA, effectM, effectX, effectZ}
 use Rattle.pauli.proofs.Frame.{fourier-frame, phase-zero, frame-s, frame-a, frame-m, frame-x, frame-z}
-use Rattle.pauli.proofs.Step.{Step, step-hom}
+use Rattle.pauli.proofs.Step.{Step}
 
 -- ---- F
 f-dot : (d x y v w s t : ℕ) → 0 < d → y + w * s ≡ x + v * (neg d t % d) → Cong d y (x + neg d (w * s + v * t))

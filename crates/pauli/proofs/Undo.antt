@@ -13,7 +13,7 @@ use Rattle.arith.proofs.Ring.{ring₂, ring₁-by, times, quote}
 use Rattle.arith.proofs.Remainders.{idle, neg-neg}
 use Rattle.arith.specs.Gcd.{gcd}
 use Rattle.arith.specs.Units.{inverseOf}
-use Rattle.arith.proofs.Units.{inverse-below, inverse-times, inverse-pos, inverse-unit}
+use Rattle.arith.proofs.Units.{inverse-times, inverse-unit}
 use Rattle.pauli.specs.Pauli.{Pauli, InRange}
 use Rattle.pauli.proofs.Lists.{set-set-back}
 use Rattle.pauli.proofs.Ranges.{in-v, pauli-path, in-w, v-less, w-less}

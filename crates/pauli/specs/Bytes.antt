@@ -9,7 +9,7 @@ abbrev pub pauliNumbers : ℕ → ℕ
 pauliNumbers n = 1 + 2 * n
 
 abbrev pub pauliBytes : ℕ → ℕ
-pauliBytes n = 2 * (1 + 2 * n)
+pauliBytes n = 2 * pauliNumbers n
 
 -- the Pauli on n qudits that starts at number k of the bytes
 abbrev pub decodeAt : ℕ → ℕ → List ℕ → Pauli

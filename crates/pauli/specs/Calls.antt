@@ -1,4 +1,4 @@
--- The public calls on Paulis in bytes: each call's refusal, in the order of document 01's table, and its answer.
+-- The public calls on Paulis in bytes: each call's refusal, in the order of document 01's table, and its answer. `room` is the output's length.
 use mathlib.Core.List.{List}
 use Prim.Native.Nat.{ℕ}
 use lib.ListN.{length}
@@ -8,23 +8,23 @@ use Rattle.pauli.specs.Bytes.{pauliBytes, decode, encode}
 use Rattle.pauli.specs.Range.{pauliRangeOf, pairRangeOf}
 
 -- ---- product of p and q, in this order: 1, 2, 3 of p and of q, 4, 5 of p and of q
-abbrev pub productRefusal : ℕ → ℕ → List ℕ → List ℕ → List ℕ → ℕ
-productRefusal d n p q out =
+abbrev pub productRefusal : ℕ → ℕ → List ℕ → List ℕ → ℕ → ℕ
+productRefusal d n p q room =
     orElse (givenOf d n)
     (orElse (sizeOf (pauliBytes n) (length p))
     (orElse (sizeOf (pauliBytes n) (length q))
-    (orElse (roomOf (pauliBytes n) (length out))
+    (orElse (roomOf (pauliBytes n) room)
     (pairRangeOf d (decode n p) (decode n q)))))
 
 abbrev pub productBytes : ℕ → ℕ → List ℕ → List ℕ → List ℕ
 productBytes d n p q = encode (product d (decode n p) (decode n q))
 
 -- ---- power k of p: 1, 2, 3, 4, 5; no k is refused
-abbrev pub powerRefusal : ℕ → ℕ → List ℕ → List ℕ → ℕ
-powerRefusal d n p out =
+abbrev pub powerRefusal : ℕ → ℕ → List ℕ → ℕ → ℕ
+powerRefusal d n p room =
     orElse (givenOf d n)
     (orElse (sizeOf (pauliBytes n) (length p))
-    (orElse (roomOf (pauliBytes n) (length out))
+    (orElse (roomOf (pauliBytes n) room)
     (pauliRangeOf d (decode n p))))
 
 abbrev pub powerBytes : ℕ → ℕ → List ℕ → ℕ → List ℕ

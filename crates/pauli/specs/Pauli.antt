@@ -2,7 +2,7 @@
 -- Qudits and columns count from 0 here; the byte layouts count from 1.
 use mathlib.Core.Path.{_≡_}
 use mathlib.Core.List.{List, [], _∷_}
-use mathlib.Core.Bool.{Bool, true, false, cond}
+use mathlib.Core.Bool.{cond}
 use Prim.Native.Nat.{ℕ, zero, suc, _+_, _*_, _-_, _%_, _<_}
 use lib.ListN.{length, set, replicate}
 use lib.Dec.{ltb}

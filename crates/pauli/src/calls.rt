@@ -3,6 +3,7 @@ use crate::Pauli;
 use arith::checks::Answer;
 use arith::checks::Check;
 ghost use mathlib.Core.Path.{_≡_};
+ghost use lib.ListN.{length};
 ghost use Rattle.arith.specs.Refusals.{checked, orElse, givenOf, sizeOf, roomOf};
 ghost use Rattle.arith.specs.Answers.{Answered, Written};
 ghost use Rattle.pauli.specs.Bytes.{pauliBytes};
@@ -46,6 +47,7 @@ fn power_check(d: u16, n: u16, size: usize, room: usize) -> Check
     let want = 2 * (1 + 2 * (n as usize));
     let length = arith::checks::size(want, size);
     let space = arith::checks::room(want, room);
+    // 3 comes before 4.
     let Check::Good = length else {
         return length;
     };
@@ -54,26 +56,26 @@ fn power_check(d: u16, n: u16, size: usize, room: usize) -> Check
 
 // The product of p and q, in this order.
 pub fn product(d: u16, n: u16, p: &[u8], q: &[u8], out: &mut [u8]) -> u16
-    ensures { λ r. ⌜ Written (productRefusal d n (now (p .entry)) (now (q .entry)) (now (out .entry))) (productBytes d n (now (p .entry)) (now (q .entry))) (now (out .entry)) (now (out .exit)) r ⌝ }
+    ensures { λ r. ⌜ Written (productRefusal d n (now (p .entry)) (now (q .entry)) (length (now (out .entry)))) (productBytes d n (now (p .entry)) (now (q .entry))) (now (out .entry)) (now (out .exit)) r ⌝ }
 {
     let found = product_check(d, n, p.len(), q.len(), out.len());
     let Check::Good = found else {
         return arith::checks::number(found);
     };
     let m = n as usize;
-    let first = Pauli::read(p, 0, m);
-    let second = Pauli::read(q, 0, m);
-    let ranged = first.pair_range(second, d, m);
+    let left = Pauli::read(p, 0, m);
+    let right = Pauli::read(q, 0, m);
+    let ranged = left.pair_range(right, d, m);
     let Check::Good = ranged else {
         return arith::checks::number(ranged);
     };
-    first.product(second, d, m).write(out, 0, m);
+    left.product(right, d, m).write(out, 0, m);
     0
 }
 
 // The product of k copies of p.
 pub fn power(d: u16, n: u16, p: &[u8], k: u16, out: &mut [u8]) -> u16
-    ensures { λ r. ⌜ Written (powerRefusal d n (now (p .entry)) (now (out .entry))) (powerBytes d n (now (p .entry)) k) (now (out .entry)) (now (out .exit)) r ⌝ }
+    ensures { λ r. ⌜ Written (powerRefusal d n (now (p .entry)) (length (now (out .entry)))) (powerBytes d n (now (p .entry)) k) (now (out .entry)) (now (out .exit)) r ⌝ }
 {
     let found = power_check(d, n, p.len(), out.len());
     let Check::Good = found else {

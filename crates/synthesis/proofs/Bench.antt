@@ -3,12 +3,13 @@ use mathlib.Core.Path.{_≡_, refl}
 use mathlib.Core.List.{[], _∷_, List}
 use Prim.Native.Nat.{ℕ}
 use Rattle.arith.specs.Residues.{neg}
+use Rattle.arith.specs.Refusals.{pairingOf, parityOf}
 use Rattle.arith.specs.Gcd.{gcd}
 use Rattle.arith.specs.Units.{firstBelow, inverseOf, leastMultiplier}
 use Rattle.pauli.specs.Pauli.{Pauli, product, power, unitX, unitZ}
 use Rattle.gates.specs.Row.{F, S, A, Z, apply}
 use Rattle.tableau.specs.Tableau.{tableauOf}
-use Rattle.tableau.specs.Soundness.{refusal}
+use Rattle.tableau.specs.Soundness.{soundnessOf}
 use Rattle.synthesis.specs.Reduce.{synthesised}
 
 -- a Pauli of one qudit
@@ -36,24 +37,24 @@ c5 = apply 3 (A 0 1 1) (record { phase = 0; v = 1 ∷ 0 ∷ []; w = 0 ∷ 1 ∷ 
 
 -- parity
 abbrev pub c6 : Type 0
-c6 = refusal 2 1 (columns (pauli 0 1 1) (pauli 0 0 1)) ≡ 8
+c6 = soundnessOf 2 1 (columns (pauli 0 1 1) (pauli 0 0 1)) ≡ 8
 
 -- sound, and S power 3 does it
 abbrev pub c7 : Type 0
-c7 = (refusal 2 1 (columns (pauli 1 1 1) (pauli 0 0 1)) ≡ 0) × (tableauOf 2 1 (S 0 3 ∷ []) ≡ columns (pauli 1 1 1) (pauli 0 0 1))
+c7 = (soundnessOf 2 1 (columns (pauli 1 1 1) (pauli 0 0 1)) ≡ 0) × (tableauOf 2 1 (S 0 3 ∷ []) ≡ columns (pauli 1 1 1) (pauli 0 0 1))
 
 -- sound, though no entry is a unit; and done
 abbrev pub c8 : Type 0
-c8 = (refusal 6 1 (columns (pauli 0 2 3) (pauli 0 3 2)) ≡ 0) × (gcd 2 6 ≡ 2) × (gcd 3 6 ≡ 3)
+c8 = (soundnessOf 6 1 (columns (pauli 0 2 3) (pauli 0 3 2)) ≡ 0) × (gcd 2 6 ≡ 2) × (gcd 3 6 ≡ 3)
     × (tableauOf 6 1 (synthesised 6 1 (columns (pauli 0 2 3) (pauli 0 3 2))) ≡ columns (pauli 0 2 3) (pauli 0 3 2))
 
 -- pairing
 abbrev pub c9 : Type 0
-c9 = refusal 4 1 (columns (pauli 0 2 0) (pauli 0 0 1)) ≡ 7
+c9 = soundnessOf 4 1 (columns (pauli 0 2 0) (pauli 0 0 1)) ≡ 7
 
 -- parity, and with phase 2 sound
 abbrev pub c10 : Type 0
-c10 = (refusal 4 1 (columns (pauli 1 1 0) (pauli 0 0 1)) ≡ 8) × (refusal 4 1 (columns (pauli 2 1 0) (pauli 0 0 1)) ≡ 0)
+c10 = (soundnessOf 4 1 (columns (pauli 1 1 0) (pauli 0 0 1)) ≡ 8) × (soundnessOf 4 1 (columns (pauli 2 1 0) (pauli 0 0 1)) ≡ 0)
 
 abbrev pub c11 : Type 0
 c11 = leastMultiplier 6 2 1 ≡ 3
@@ -63,5 +64,5 @@ abbrev pub c12 : Type 0
 c12 = tableauOf 4 1 (S 0 4 ∷ []) ≡ tableauOf 4 1 (Z 0 2 ∷ [])
 
 pub bench : c1 × c2 × c3 × c4 × c5 × c6 × c7 × c8 × c9 × c10 × c11 × c12
-unfolding synthesised leastMultiplier inverseOf firstBelow gcd neg
+unfolding synthesised leastMultiplier inverseOf firstBelow gcd neg pairingOf parityOf
 bench = (refl, refl, refl, refl, refl, refl, (refl, refl), (refl, refl, refl, refl), refl, (refl, refl), refl, refl)

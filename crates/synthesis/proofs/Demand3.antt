@@ -12,8 +12,8 @@ use Rattle.pauli.specs.Pauli.{Pauli, InRange, unit, phaseOnly}
 use Rattle.gates.specs.Row.{Row, AllLegal, run}
 use Rattle.tableau.specs.Tableau.{WellFormed, Sound, column, tableauOf, image}
 use Rattle.tableau.proofs.Run.{run-image, tableau-formed, tableau-column, tableau-sound}
-use Rattle.tableau.specs.Soundness.{refusal}
-use Rattle.tableau.proofs.Tests.{refusal-says}
+use Rattle.tableau.specs.Soundness.{soundnessOf}
+use Rattle.tableau.proofs.Tests.{soundness-says}
 use Rattle.synthesis.specs.Reduce.{synthesised}
 use Rattle.synthesis.specs.Demand3.{Realises, Realisable}
 use Rattle.synthesis.proofs.Theorem.{synthesis, Synthesis}
@@ -57,16 +57,16 @@ module _ {d n : ℕ} {t : List Pauli} (one : 1 < d) (formed : WellFormed d n t) 
   realisable-sound = (λ z. realises-sound (z .0) (z .1), λ sound. (synthesised d n t, sound-realised sound .0))
 
   -- no refusal exactly where some list realises t; refused as unrealisable, by 7 or by 8, exactly where none does
-  pub accepted-realisable : (refusal d n t ≡ 0) ↔ Realisable d n t
+  pub accepted-realisable : (soundnessOf d n t ≡ 0) ↔ Realisable d n t
   accepted-realisable =
-      let says = refusal-says {d = d} {n = n} {t = t} in (
+      let says = soundness-says {d = d} {n = n} {t = t} in (
         λ e. let y = says .accepted .0 e in realisable-sound .1 (record { pairing = y .0; parities = y .1 }),
         λ z. let sound = realisable-sound .0 z in says .accepted .1 (sound .pairing, sound .parities),
       )
 
-  pub refused-unrealisable : ((refusal d n t ≡ 7) ⊎ (refusal d n t ≡ 8)) ↔ ¬ Realisable d n t
+  pub refused-unrealisable : ((soundnessOf d n t ≡ 7) ⊎ (soundnessOf d n t ≡ 8)) ↔ ¬ Realisable d n t
   refused-unrealisable =
-      let says = refusal-says {d = d} {n = n} {t = t} in (
+      let says = soundness-says {d = d} {n = n} {t = t} in (
         λ e z. let sound = realisable-sound .0 z in says .refused .0 e (sound .pairing, sound .parities),
         λ f. says .refused .1 (λ y. f (realisable-sound .1 (record { pairing = y .0; parities = y .1 }))),
       )

@@ -27,15 +27,20 @@ column-range {n = n} j pos none = one-range n pos
 column-range zero pos (more c cs) = c
 column-range (suc j) pos (more c cs) = column-range j pos cs
 
-map-range : {d n : ℕ} {f : Pauli → Pauli} {t : List Pauli} → Hom d n f → AllInRange d n t → AllInRange d n (map f t)
-map-range m none = none
-map-range m (more {c = c} r rs) = more (m .range c r) (map-range m rs)
+module _ {d n : ℕ} {f : Pauli → Pauli} (keeps : (p : Pauli) → InRange d n p → InRange d n (f p)) where
+  map-range : {t : List Pauli} → AllInRange d n t → AllInRange d n (map f t)
+  map-range none = none
+  map-range (more {c = c} r rs) = more (keeps c r) (map-range rs)
+
+  -- a map that keeps ranges keeps a tableau well formed
+  pub map-kept : {t : List Pauli} → WellFormed d n t → WellFormed d n (map f t)
+  map-kept {t} g = record { columns = length-map t f ∙ g .columns; ranges = map-range (g .ranges) }
 
 pub column-map : {d n : ℕ} {f : Pauli → Pauli} → 0 < d → Hom d n f → (t : List Pauli) (j : ℕ) → column n (map f t) j ≡ f (column n t j)
 column-map {n = n} {f} pos m t j = ap (getD (map f t) j) (sym (m .phases 0 (omega arith))) ∙ List·getD-map f t j (phaseOnly n 0)
 
 pub map-formed : {d n : ℕ} {f : Pauli → Pauli} {t : List Pauli} → Hom d n f → WellFormed d n t → WellFormed d n (map f t)
-map-formed {f = f} {t} m g = record { columns = length-map t f ∙ g .columns; ranges = map-range m (g .ranges) }
+map-formed m g = map-kept (m .range) g
 
 pub map-sound : {d n : ℕ} {f : Pauli → Pauli} {t : List Pauli} → 0 < d → Hom d n f → WellFormed d n t → Sound d n t → Sound d n (map f t)
 map-sound {d} {n} {f} {t} pos m g s = record {

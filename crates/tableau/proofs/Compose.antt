@@ -12,10 +12,10 @@ use Rattle.pauli.proofs.Group.{one-left}
 use Rattle.pauli.proofs.Units.{unit-case}
 use Rattle.pauli.proofs.Hom.{Hom, hom-then}
 use Rattle.tableau.specs.Tableau.{units, column, multiplied, image, AllInRange, none, more, WellFormed, Sound, compose}
-use Rattle.tableau.proofs.Columns.{map-formed, map-sound, units-formed, column-map, column-units, map-same, map-agree}
+use Rattle.tableau.proofs.Columns.{map-kept, map-formed, map-sound, units-formed, column-map, column-units, map-same, map-agree}
 use Rattle.tableau.proofs.Units.{image-units}
 use Rattle.tableau.proofs.Products.{total, multiplied-zeros}
-use Rattle.tableau.proofs.Image.{hom-image, image-hom}
+use Rattle.tableau.proofs.Image.{hom-image, image-hom, image-range}
 
 -- ---- the image of a unit
 set-append-right : (xs ys : List ℕ) (i a : ℕ) → set (xs ++ ys) (length xs + i) a ≡ xs ++ set ys i a
@@ -62,8 +62,8 @@ tableau-image {d} {n} {t} one g s = ext-getD (phaseOnly n 0) (map (image d n t) 
     f = map-formed m (units-formed d n one)
 
 -- ---- composition
-pub compose-formed : {d n : ℕ} {t u : List Pauli} → 1 < d → WellFormed d n t → WellFormed d n u → Sound d n u → WellFormed d n (compose d n t u)
-compose-formed one g f s = map-formed (image-hom one f s) g
+pub compose-formed : {d n : ℕ} {t u : List Pauli} → 0 < d → WellFormed d n t → WellFormed d n u → WellFormed d n (compose d n t u)
+compose-formed pos g f = map-kept (λ p a. image-range pos (f .ranges) a) g
 
 pub compose-sound : {d n : ℕ} {t u : List Pauli} → 1 < d → WellFormed d n t → Sound d n t → WellFormed d n u → Sound d n u → Sound d n (compose d n t u)
 compose-sound one g r f s = map-sound (omega arith) (image-hom one f s) g r

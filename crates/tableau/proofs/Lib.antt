@@ -7,3 +7,6 @@ pub mod Products
 pub mod Run
 pub mod Tests
 pub mod Units
+pub mod Bytes
+pub mod Loops
+pub mod Accepted

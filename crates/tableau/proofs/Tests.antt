@@ -6,10 +6,11 @@ use mathlib.Core.Logic.{_↔_, _⊎_, inl, inr}
 use Prim.Native.Nat.{ℕ, zero, suc, _+_, _*_, _-_, _≤_, _<_}
 use native.Mathlib.Omega.{arith}
 use lib.Dec.{T, eqb, eqb→eq, eqb-refl}
+use Rattle.arith.specs.Refusals.{orElse, pairingOf, parityOf}
 use Rattle.arith.proofs.Cases.{by-eq, and-l, and-r, and-both}
 use Rattle.pauli.specs.Pauli.{Pauli, comm, parity}
-use Rattle.tableau.specs.Tableau.{column, paired, upFrom, Pairing, Even}
-use Rattle.tableau.specs.Soundness.{all, pairPasses, laterPass, pairingHolds, evenPasses, parityHolds, refusal}
+use Rattle.tableau.specs.Tableau.{column, paired, upFrom, Pairing, Even, Sound}
+use Rattle.tableau.specs.Soundness.{all, pairPasses, laterPass, pairingHolds, evenPasses, parityHolds, soundnessOf}
 
 -- ---- the loops
 all-to : (test : ℕ → Bool) (a m : ℕ) → T (all test (upFrom a m)) → (i : ℕ) → a ≤ i → i < a + m → T (test i)
@@ -32,7 +33,8 @@ pub record Says (P E : Type 0) (r : ℕ) : Type 0 where
   pub accepted : (r ≡ 0) ↔ (P × E)
   pub refused : ((r ≡ 7) ⊎ (r ≡ 8)) ↔ ¬ (P × E)
 
-says : {P E : Type 0} (b c : Bool) → T b ↔ P → T c ↔ E → Says P E (cond b (cond c 0 8) 7)
+says : {P E : Type 0} (b c : Bool) → T b ↔ P → T c ↔ E → Says P E (orElse (pairingOf b) (parityOf c))
+unfolding pairingOf parityOf
 says true true p e = record {
   seven = (λ q. absurd (omega arith), λ f. absurd (f (p .0 tt)));
   eight = (λ q. absurd (omega arith), λ f. absurd (f .1 (e .0 tt)));
@@ -72,5 +74,9 @@ module _ {d n : ℕ} {t : List Pauli} where
     λ p. all-from (evenPasses d n t) 0 (2 * n) (λ j l m. eqb-of (p .even j (omega arith))),
   )
 
-  pub refusal-says : Says (Pairing d n t) (Even d n t) (refusal d n t)
-  refusal-says = says (pairingHolds d n t) (parityHolds d n t) pairing-test parity-test
+  pub soundness-says : Says (Pairing d n t) (Even d n t) (soundnessOf d n t)
+  soundness-says = says (pairingHolds d n t) (parityHolds d n t) pairing-test parity-test
+
+  -- what holds once 7 and 8 are past
+  pub sound-good : soundnessOf d n t ≡ 0 → Sound d n t
+  sound-good e = let y = soundness-says .accepted .0 e in record { pairing = y .0; parities = y .1 }

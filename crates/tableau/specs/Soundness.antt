@@ -1,8 +1,9 @@
 -- Refusals 7 and 8 of document 01's table as tests that a program can run: over all columns j, and in it over all k > j; then over all columns.
 use mathlib.Core.List.{List, [], _∷_}
-use mathlib.Core.Bool.{Bool, true, false, _&&_, cond}
+use mathlib.Core.Bool.{Bool, true, false, _&&_}
 use Prim.Native.Nat.{ℕ, suc, _*_, _-_}
 use lib.Dec.{eqb}
+use Rattle.arith.specs.Refusals.{orElse, pairingOf, parityOf}
 use Rattle.pauli.specs.Pauli.{Pauli, comm, parity}
 use Rattle.tableau.specs.Tableau.{column, paired, upFrom}
 
@@ -27,6 +28,14 @@ evenPasses d n t j = eqb (parity d (column n t j)) 0
 abbrev pub parityHolds : ℕ → ℕ → List Pauli → Bool
 parityHolds d n t = all (evenPasses d n t) (upFrom 0 (2 * n))
 
--- the number of the refusal: 7 for pairing, 8 for parity, 0 for none
-abbrev pub refusal : ℕ → ℕ → List Pauli → ℕ
-refusal d n t = cond (pairingHolds d n t) (cond (parityHolds d n t) 0 8) 7
+-- 7 for pairing, then 8 for parity, 0 for neither
+abbrev pub soundnessOf : ℕ → ℕ → List Pauli → ℕ
+soundnessOf d n t = orElse (pairingOf (pairingHolds d n t)) (parityOf (parityHolds d n t))
+
+-- of two tableaus: 7 of both, then 8 of both
+abbrev pub bothSoundnessOf : ℕ → ℕ → List Pauli → List Pauli → ℕ
+bothSoundnessOf d n t u =
+    orElse (pairingOf (pairingHolds d n t))
+    (orElse (pairingOf (pairingHolds d n u))
+    (orElse (parityOf (parityHolds d n t))
+    (parityOf (parityHolds d n u))))

@@ -25,13 +25,14 @@ apply-spec = tie.close (tie.spec
     (λ c κs. (c .before .before .before .pre .0 .0, omega (arith, legal-first _ _ _ (c .before .before .before .pre .1 .0))))  -- effect-s-requires
     (λ c. search needs)  -- cast-effect-a
     (λ c. legal-second _ _ _ (c .before .before .before .before .pre .1 .0) (c .before .match .keys3) .0)  -- sub-effect-a
-    (λ c κs. (c .before .before .before .before .pre .0 .0, (omega (arith, legal-first _ _ _ (c .before .before .before .before .pre .1 .0)), omega (arith, legal-second _ _ _ (c .before .before .before .before .pre .1 .0) (c .before .match .keys3)))))  -- effect-a-requires
+    (λ c κs. let f = legal-first _ _ _ (c .before .before .before .before .pre .1 .0) in let s = legal-second _ _ _ (c .before .before .before .before .pre .1 .0) (c .before .match .keys3) in (c .before .before .before .before .pre .0 .0, omega arith))  -- effect-a-requires
     (λ c κs. ((c .before .before .before .pre .0 .0, omega (arith, legal-first _ _ _ (c .before .before .before .pre .1 .0))), c .before .before .before .pre .1 .1 (c .match .keys4)))  -- effect-m-requires
     (λ c κs. (c .before .before .before .pre .0 .0, omega (arith, legal-first _ _ _ (c .before .before .before .pre .1 .0))))  -- effect-x-requires
     (λ c κs. (c .before .before .before .pre .0 .0, omega (arith, legal-first _ _ _ (c .before .before .before .pre .1 .0))))  -- effect-z-requires
     (λ c. let a = c .before .before .before .before .args in c .effect-f .ensures (a .n) (omega (arith, legal-first _ _ _ (c .before .before .before .before .pre .1 .0))) (c .before .before .before .before .pre .0 .1) ∙ of-kind (a .d) (viewRow (a .self .row)) 1 (view (a .n) (a .p)) (c .before .match .keys1))  -- returns
     (λ c. let a = c .before .before .before .before .args in c .effect-s .ensures (a .n) (omega (arith, legal-first _ _ _ (c .before .before .before .before .pre .1 .0))) (c .before .before .before .before .pre .0 .1) ∙ of-kind (a .d) (viewRow (a .self .row)) 2 (view (a .n) (a .p)) (c .before .match .keys2))  -- returns-2
-    (λ c. let a = c .before .before .before .before .before .args in c .effect-a .ensures (a .n) (omega (arith, legal-first _ _ _ (c .before .before .before .before .before .pre .1 .0))) (omega (arith, legal-second _ _ _ (c .before .before .before .before .before .pre .1 .0) (c .before .before .match .keys3))) (c .before .before .before .before .before .pre .0 .1) ∙ of-kind (a .d) (viewRow (a .self .row)) 3 (view (a .n) (a .p)) (c .before .before .match .keys3))  -- returns-3
+    (λ c. let a = c .before .before .before .before .before .args in let f = legal-first _ _ _ (c .before .before .before .before .before .pre .1 .0) in let s = legal-second _ _ _ (c .before .before .before .before .before .pre .1 .0) (c .before .before .match .keys3) in
+    c .effect-a .ensures (a .n) (omega arith) (omega arith) (c .before .before .before .before .before .pre .0 .1) ∙ of-kind (a .d) (viewRow (a .self .row)) 3 (view (a .n) (a .p)) (c .before .before .match .keys3))  -- returns-3
     (λ c. let a = c .before .before .before .before .args in c .effect-m .ensures (a .n) (omega (arith, legal-first _ _ _ (c .before .before .before .before .pre .1 .0))) (c .before .before .before .before .pre .0 .1) ∙ of-kind (a .d) (viewRow (a .self .row)) 4 (view (a .n) (a .p)) (c .before .match .keys4))  -- returns-4
     (λ c. let a = c .before .before .before .before .args in c .effect-x .ensures (a .n) (omega (arith, legal-first _ _ _ (c .before .before .before .before .pre .1 .0))) (c .before .before .before .before .pre .0 .1) ∙ of-kind (a .d) (viewRow (a .self .row)) 5 (view (a .n) (a .p)) (c .before .match .keys5))  -- returns-5
     (λ c. let a = c .before .before .before .before .args in c .effect-z .ensures (a .n) (omega (arith, legal-first _ _ _ (c .before .before .before .before .pre .1 .0))) (c .before .before .before .before .pre .0 .1) ∙ of-kind (a .d) (viewRow (a .self .row)) 6 (view (a .n) (a .p)) (c .before .match .keys6))  -- returns-6

@@ -1,13 +1,8 @@
 -- `gates::calls::ticks` meets its contract: an accepted list has at most 4,096 rows, so their number fits.
 use Rattle.gates.proofs.Accepted.{ticks-accepted}
-use mathlib.Core.Path.{_≡_, refl, sym}
-use mathlib.Core.List.{List}
-use Prim.Native.Nat.{ℕ, _≤_, _*_}
-use lib.ListN.{length}
-use Rattle.arith.specs.Refusals.{givenOf, listSizeOf}
+use mathlib.Core.Path.{refl, sym}
 use Rattle.arith.proofs.Bytes.{tab-length}
-use Rattle.arith.proofs.Refusals.{good, stop-last, stop-answered, answered, orElse-none, list-size-good}
-use Rattle.gates.specs.Calls.{ticksRefusal}
+use Rattle.arith.proofs.Refusals.{good, stop-last, stop-answered, answered}
 use native.Mathlib.Omega.{arith}
 use borrow.Author.Needs.{needs}
 use Rattle.gates.proofs.calls.ticks.Statement.{statement}

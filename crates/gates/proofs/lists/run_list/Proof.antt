@@ -8,7 +8,6 @@ use Rattle.pauli.specs.View.{view}
 use Rattle.gates.specs.Row.{run}
 use Rattle.gates.specs.Written.{rowAt, meant}
 use Rattle.gates.proofs.Run.{run-start, run-next}
-use Rattle.gates.proofs.Written.{all-legal-at}
 use native.Mathlib.Omega.{arith}
 use borrow.Author.Needs.{needs}
 use Rattle.gates.proofs.lists.run_list.Statement.{statement}
@@ -23,7 +22,7 @@ abbrev μ-loop : tie.MeasureT-loop
 pub run-list-spec : {M : Type 1} → statement M
 run-list-spec = tie.close (tie.spec Inv-loop μ-loop
     (λ c. let a = c .before .args in (omega arith, run-start (a .d) (rowAt (a .list .now)) (view (a .n) (a .p))))  -- loop-holds
-    (λ c κs. let a = c .before .before .before .args in ((c .before .before .before .pre .0 .0, (c .before .before .before .pre .0 .1, omega arith)), all-legal-at (a .d) (a .n) (rowAt (a .list .now)) (length (a .list .now) / 8) (c .before .loop .r) (omega arith) (c .before .before .before .pre .1)))  -- run-row-requires
+    (λ c κs. let h = c .before .before .before .pre .1 in search needs)  -- run-row-requires
     (λ c. search needs)  -- add-r
     (λ c. search needs)  -- loop-less
     (λ c. let a = c .before .before .before .before .args in (omega arith, run-next (a .d) (rowAt (a .list .now)) (c .before .before .loop .r) (view (a .n) (a .p)) (c .before .before .loop .inv .1) (c .run-row .ensures)))  -- loop-again

@@ -1,31 +1,39 @@
 -- `pauli::calls::commutation` meets its contract: refused by the check of 1 to 3 or by that of 5, else the method's promise.
 use mathlib.Core.Path.{_≡_, refl, _∙_, ap₂}
 use lib.ListN.{length}
-use Rattle.arith.proofs.Refusals.{Given, good, stop-last, stop-answered, answered}
+use Rattle.arith.specs.Refusals.{checked}
+use Rattle.arith.proofs.Refusals.{good, stop-last, stop-answered, answered}
 use Rattle.pauli.specs.Pauli.{comm}
-use Rattle.pauli.specs.Bytes.{pauliBytes}
-use Rattle.pauli.proofs.Lent.{stop-at, past, stop-past, after-pair, pair-lent}
+use Rattle.pauli.specs.Bytes.{decode}
+use Rattle.pauli.specs.Range.{pairRangeOf}
+use Rattle.pauli.proofs.Lent.{stop-at, past, stop-past, pair, after-pair, pair-lent}
 use borrow.Author.Needs.{needs}
 use Rattle.pauli.proofs.calls.commutation.Statement.{statement}
 use Rattle.pauli.proofs.calls.commutation.Tie as tie
 
--- past the first check
-lent : (c : tie.After-enum-told) → Given (c .before .before .before .before .before .args .d) (c .before .before .before .before .before .args .n) × ((length (c .before .before .before .before .before .args .p .now) ≡ pauliBytes (c .before .before .before .before .before .args .n)) × (length (c .before .before .before .before .before .args .q .now) ≡ pauliBytes (c .before .before .before .before .before .args .n)))
-lent c = pair-lent _ _ _ _ (good _ (c .before .before .commutation-check .ensures) (c .enum-told .given .1))
+-- the check of 1 to 3 passed
+passed : (c : tie.After-enum-told) → let a = c .before .before .before .before .before .args in pair (a .d) (a .n) (length (a .p .now)) (length (a .q .now)) ≡ 0
+passed c = good _ (c .before .before .commutation-check .ensures) (c .enum-told .given .1)
+
+-- what the check of 5 finds
+ranged : (c : tie.After-pair-range) → let a = c .before .before .before .before .before .before .before .before .args in c .pair-range .result ≡ checked (pairRangeOf (a .d) (decode (a .n) (a .p .now)) (decode (a .n) (a .q .now)))
+ranged c = rw (c .before .before .read .ensures, c .before .read2 .ensures) at (c .pair-range .ensures)
 
 returns : tie.Need-returns
 returns c = stop-answered _ (stop-at _ _ (after-pair _ _ _ _ _) (c .before .before .before .commutation-check .ensures) (c .before .enum-told2 .given .1)) (c .refused .ensures)
 
 returns-2 : tie.Need-returns-2
-returns-2 c = stop-answered _ (stop-past _ _ (after-pair _ _ _ _ _) (good _ (c .before .before .before .before .before .before .before .before .commutation-check .ensures) (c .before .before .before .before .before .before .enum-told .given .1)) (stop-last _ (rw (c .before .before .before .before .before .read .ensures, c .before .before .before .before .read2 .ensures) at (c .before .before .before .pair-range .ensures)) (c .before .enum-told4 .given .1))) (c .refused2 .ensures)
-
-commutation-requires : tie.Need-commutation-requires
-commutation-requires c κs =
-    let z = lent (c .before .before .before .before .before) in
-    search needs
+returns-2 c =
+    let r = c .before .before .before in
+    stop-answered _ (stop-past _ _ (after-pair _ _ _ _ _) (passed (r .before .before .before)) (stop-last _ (ranged r) (c .before .enum-told4 .given .1))) (c .refused2 .ensures)
 
 returns-3 : tie.Need-returns-3
-returns-3 c = answered (past _ _ (after-pair _ _ _ _ _) (good _ (c .before .before .before .before .before .before .before .before .commutation-check .ensures) (c .before .before .before .before .before .before .enum-told .given .1)) ∙ good _ (rw (c .before .before .before .before .before .read .ensures, c .before .before .before .before .read2 .ensures) at (c .before .before .before .pair-range .ensures)) (c .before .enum-told3 .given .1)) refl (c .commutation .ensures ∙ ap₂ (comm _) (c .before .before .before .before .before .read .ensures) (c .before .before .before .before .read2 .ensures))
+returns-3 c =
+    let r = c .before .before .before in
+    answered
+    (past _ _ (after-pair _ _ _ _ _) (passed (r .before .before .before)) ∙ good _ (ranged r) (c .before .enum-told3 .given .1))
+    refl
+    (c .commutation .ensures ∙ ap₂ (comm _) (r .before .before .read .ensures) (r .before .read2 .ensures))
 
 pub commutation-spec : {M : Type 1} → statement M
 commutation-spec = tie.close (tie.spec
@@ -34,12 +42,12 @@ commutation-spec = tie.close (tie.spec
     (λ c. search needs)  -- enum-told-2
     (λ c κs. search needs)  -- refused-requires
     returns
-    (λ c κs. let z = lent c in search needs)  -- read-requires
-    (λ c κs. let z = lent (c .before) in search needs)  -- read-requires-2
-    (λ c κs. let z = lent (c .before .before) in search needs)  -- pair-range-requires
+    (λ c κs. let z = pair-lent _ _ _ _ (passed c) in search needs)  -- read-requires
+    (λ c κs. let z = pair-lent _ _ _ _ (passed (c .before)) in search needs)  -- read-requires-2
+    (λ c κs. let z = pair-lent _ _ _ _ (passed (c .before .before)) in search needs)  -- pair-range-requires
     (λ c. search needs)  -- enum-told-3
     (λ c. search needs)  -- enum-told-4
     (λ c κs. search needs)  -- refused-requires-2
     returns-2
-    commutation-requires
+    (λ c κs. let z = pair-lent _ _ _ _ (passed (c .before .before .before .before .before)) in search needs)  -- commutation-requires
     returns-3)

@@ -1,40 +1,48 @@
 -- `pauli::calls::power` meets its contract: refused by the check of 1 to 4 or by that of 5, else the power at the front of the output.
 use mathlib.Core.Path.{_≡_, refl, _∙_, ap}
-use Prim.Native.Nat.{_≤_}
 use lib.ListN.{length}
-use Rattle.arith.proofs.Refusals.{Given, good, stop-last, stop-written, written}
+use Rattle.arith.specs.Refusals.{checked}
+use Rattle.arith.proofs.Refusals.{good, stop-last, stop-written, written}
 use Rattle.pauli.specs.Pauli.{Pauli, power}
-use Rattle.pauli.specs.Bytes.{pauliBytes}
+use Rattle.pauli.specs.Bytes.{decode}
+use Rattle.pauli.specs.Range.{pauliRangeOf}
 use Rattle.pauli.proofs.Encoding.{write-answer, decode-range}
-use Rattle.pauli.proofs.Lent.{stop-at, past, stop-past, after-output, output-lent}
+use Rattle.pauli.proofs.Lent.{stop-at, past, stop-past, output, after-output, output-lent}
 use borrow.Author.Needs.{needs}
 use Rattle.pauli.proofs.calls.power.Statement.{statement}
 use Rattle.pauli.proofs.calls.power.Tie as tie
 
--- past the first check
-lent : (c : tie.After-enum-told) → Given (c .before .before .before .before .before .args .d) (c .before .before .before .before .before .args .n) × ((length (c .before .before .before .before .before .args .p .now) ≡ pauliBytes (c .before .before .before .before .before .args .n)) × (pauliBytes (c .before .before .before .before .before .args .n) ≤ length (c .before .before .before .before .before .args .out .now)))
-lent c = output-lent _ _ _ _ (good _ (c .before .before .power-check .ensures) (c .enum-told .given .1))
+-- the check of 1 to 4 passed
+passed : (c : tie.After-enum-told) → let a = c .before .before .before .before .before .args in output (a .d) (a .n) (length (a .p .now)) (length (a .out .now)) ≡ 0
+passed c = good _ (c .before .before .power-check .ensures) (c .enum-told .given .1)
+
+-- what the check of 5 finds
+ranged : (c : tie.After-range) → let a = c .before .before .before .before .before .before .before .args in c .range .result ≡ checked (pauliRangeOf (a .d) (decode (a .n) (a .p .now)))
+ranged c = rw (c .before .read .ensures) at (c .range .ensures)
 
 returns : tie.Need-returns
 returns c = stop-written _ _ (stop-at _ _ (after-output _ _ _ _ _) (c .before .before .before .power-check .ensures) (c .before .enum-told2 .given .1)) (c .number .ensures)
 
 returns-2 : tie.Need-returns-2
-returns-2 c = stop-written _ _ (stop-past _ _ (after-output _ _ _ _ _) (good _ (c .before .before .before .before .before .before .before .power-check .ensures) (c .before .before .before .before .before .enum-told .given .1)) (stop-last _ (rw (c .before .before .before .before .read .ensures) at (c .before .before .before .range .ensures)) (c .before .enum-told4 .given .1))) (c .number2 .ensures)
+returns-2 c =
+    let r = c .before .before .before in
+    stop-written _ _ (stop-past _ _ (after-output _ _ _ _ _) (passed (r .before .before)) (stop-last _ (ranged r) (c .before .enum-told4 .given .1))) (c .number2 .ensures)
 
 power-requires : tie.Need-power-requires
 power-requires c κs =
-    let z = lent (c .before .before .before .before) in
-    (search needs, rw (c .before .before .before .read .ensures) (decode-range 0 _ (good _ (rw (c .before .before .before .read .ensures) at (c .before .before .range .ensures)) (c .enum-told3 .given .1))))
-
-write-requires : tie.Need-write-requires
-write-requires c κs =
-    let z = lent (c .before .before .before .before .before .before) in
-    search needs
+    let r = c .before .before in
+    let z = output-lent _ _ _ _ (passed (r .before .before)) in
+    (search needs, rw (r .before .read .ensures) (decode-range 0 _ (good _ (ranged r) (c .enum-told3 .given .1))))
 
 returns-3 : tie.Need-returns-3
 returns-3 c =
-    let a = c .before .before .before .before .before .before .before .before .before .before .before .before .before .before .args in
-    written (past _ _ (after-output _ _ _ _ _) (good _ (c .before .before .before .before .before .before .before .before .before .before .before .power-check .ensures) (c .before .before .before .before .before .before .before .before .before .enum-told .given .1)) ∙ good _ (rw (c .before .before .before .before .before .before .before .before .read .ensures) at (c .before .before .before .before .before .before .before .range .ensures)) (c .before .before .before .before .before .enum-told3 .given .1)) refl (write-answer _ _ _ (c .before .before .before .before .power .result) _ (lent (c .before .before .before .before .before .before .before .before .before) .1 .1) (c .before .before .write .ensures) (c .before .before .before .before .power .ensures ∙ ap (λ (p : Pauli). power (a .d) (a .n) p (a .k)) (c .before .before .before .before .before .before .before .before .read .ensures)))
+    let w = c .before .before .before .before in
+    let r = w .before .before .before in
+    let a = r .before .before .before .before .before .before .before .args in
+    written
+    (past _ _ (after-output _ _ _ _ _) (passed (r .before .before)) ∙ good _ (ranged r) (w .before .enum-told3 .given .1))
+    refl
+    (write-answer _ _ _ (w .power .result) _ (output-lent _ _ _ _ (passed (r .before .before)) .1 .1) (c .before .before .write .ensures) (w .power .ensures ∙ ap (λ (p : Pauli). power (a .d) (a .n) p (a .k)) (r .before .read .ensures)))
 
 pub power-spec : {M : Type 1} → statement M
 power-spec = tie.close (tie.spec
@@ -43,13 +51,13 @@ power-spec = tie.close (tie.spec
     (λ c. search needs)  -- enum-told-2
     (λ c κs. search needs)  -- number-requires
     returns
-    (λ c κs. let z = lent c in search needs)  -- read-requires
-    (λ c κs. let z = lent (c .before) in search needs)  -- range-requires
+    (λ c κs. let z = output-lent _ _ _ _ (passed c) in search needs)  -- read-requires
+    (λ c κs. let z = output-lent _ _ _ _ (passed (c .before)) in search needs)  -- range-requires
     (λ c. search needs)  -- enum-told-3
     (λ c. search needs)  -- enum-told-4
     (λ c κs. search needs)  -- number-requires-2
     returns-2
     power-requires
-    write-requires
+    (λ c κs. let z = output-lent _ _ _ _ (passed (c .before .before .before .before .before .before)) in search needs)  -- write-requires
     (λ c. search needs)  -- same-length
     returns-3)

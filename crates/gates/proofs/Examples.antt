@@ -1,0 +1,48 @@
+-- Document 01's text example, d = 4 and n = 2: the rows F,1,0,1 and A,1,2,1 and Z,2,0,3 in bytes, and what they make of each unit Pauli. By computing.
+use mathlib.Core.Path.{_≡_, refl}
+use mathlib.Core.List.{List, [], _∷_, map}
+use mathlib.Core.Bool.{true, false}
+use Prim.Native.Nat.{ℕ}
+use lib.ListN.{replicate}
+use Rattle.arith.specs.Residues.{neg}
+use Rattle.arith.specs.Bytes.{tab, numberAt}
+use Rattle.arith.specs.Gcd.{gcd, euclid}
+use Rattle.pauli.specs.Pauli.{Pauli, unit}
+use Rattle.gates.specs.Row.{F, A, Z, run}
+use Rattle.gates.specs.Written.{WrittenRow, rowsOf, listRows, meant, legalRow, allLegalRows}
+use Rattle.gates.specs.Calls.{ticksOf}
+
+abbrev bytes : List ℕ
+bytes = 1 ∷ 0 ∷ 1 ∷ 0 ∷ 0 ∷ 0 ∷ 1 ∷ 0 ∷ 3 ∷ 0 ∷ 1 ∷ 0 ∷ 2 ∷ 0 ∷ 1 ∷ 0 ∷ 6 ∷ 0 ∷ 2 ∷ 0 ∷ 0 ∷ 0 ∷ 3 ∷ 0 ∷ []
+
+-- phase, v1, v2, w1, w2
+abbrev column : ℕ → ℕ → ℕ → ℕ → ℕ → Pauli
+column h v₁ v₂ w₁ w₂ = record { phase = h; v = v₁ ∷ v₂ ∷ []; w = w₁ ∷ w₂ ∷ [] }
+
+pub record Example : Type 0 where
+  pub rows : rowsOf bytes ≡ F 0 1 ∷ A 0 1 1 ∷ Z 1 3 ∷ []
+  pub legal : allLegalRows 4 2 (listRows bytes) ≡ true
+  pub column-1 : run 4 (rowsOf bytes) (unit 2 0) ≡ column 0 0 0 1 0
+  pub column-2 : run 4 (rowsOf bytes) (unit 2 1) ≡ column 6 0 1 0 0
+  pub column-3 : run 4 (rowsOf bytes) (unit 2 2) ≡ column 2 3 3 0 0
+  pub column-4 : run 4 (rowsOf bytes) (unit 2 3) ≡ column 0 0 0 3 1
+  pub ticks : ticksOf bytes ≡ 3
+
+pub example : Example
+unfolding tab numberAt meant legalRow allLegalRows neg gcd euclid
+example = record { rows = refl; legal = refl; column-1 = refl; column-2 = refl; column-3 = refl; column-4 = refl; ticks = refl }
+
+-- ---- the edges of what is legal, d = 4 and n = 2: kind, first qudit, second qudit, power
+abbrev row : ℕ → ℕ → ℕ → ℕ → WrittenRow
+row kind i j k = record { kind = kind; first = i; second = j; power = k }
+
+pub highest-powers : allLegalRows 4 2 (row 1 1 0 3 ∷ row 2 2 0 7 ∷ row 3 1 2 3 ∷ row 4 1 0 3 ∷ row 5 1 0 3 ∷ row 6 2 0 3 ∷ []) ≡ true
+unfolding legalRow allLegalRows gcd euclid
+highest-powers = refl
+
+-- a power past those, a power of 0, no unit, no such kind, no such first qudit, a second one where there is none, none where there must be, the first again, past n
+pub not-legal : map (legalRow 4 2)
+    (row 1 1 0 4 ∷ row 2 1 0 8 ∷ row 3 1 2 4 ∷ row 5 1 0 4 ∷ row 1 1 0 0 ∷ row 4 1 0 2 ∷ row 0 1 0 1 ∷ row 7 1 0 1 ∷ row 1 0 0 1 ∷ row 1 3 0 1 ∷ row 1 1 2 1 ∷ row 3 1 0 1 ∷ row 3 1 1 1 ∷ row 3 1 3 1 ∷ [])
+    ≡ replicate 14 false
+unfolding legalRow gcd euclid
+not-legal = refl

@@ -1,0 +1,108 @@
+-- What the loops over the columns keep: a definition at the whole tableau is the same definition at the columns that are left.
+use mathlib.Core.Path.{_≡_, refl, sym, ap, ap₂, _∙_}
+use mathlib.Core.List.{List, [], _∷_, _++_, map}
+use mathlib.Core.Bool.{Bool, true, false}
+use Prim.Native.Nat.{ℕ, zero, suc, _+_, _*_, _-_, _≤_, _<_}
+use native.Mathlib.Nat.{zero-add}
+use native.Mathlib.Numerals.{add-one}
+use native.Mathlib.Omega.{arith}
+use lib.ListN.{length, getD, drop, drop-of-length-le, List·getD-append}
+use lib.Seq.{drop-cons, getD-append-add}
+use Rattle.arith.specs.Bytes.{tab}
+use Rattle.arith.proofs.Bytes.{tab-length, tab-at, tab-ext, tab-list, tab-map}
+use Rattle.arith.specs.Refusals.{orElse, checked, pairingOf, parityOf}
+use Rattle.arith.specs.declared.checks.Check.{Check}
+use Rattle.arith.specs.declared.checks.Check.the-variants.{Good, Refused}
+use Rattle.pauli.specs.Pauli.{Pauli, product, power, phaseOnly, unit}
+use Rattle.pauli.specs.Range.{pauliRangeOf}
+use Rattle.gates.specs.Row.{Row, run}
+use Rattle.tableau.specs.Tableau.{upFrom, column, multiplied, tableauOf, image, compose}
+use Rattle.tableau.specs.Inverse.{preimage, inverse}
+use Rattle.tableau.specs.Range.{tableauRangeOf}
+use Rattle.tableau.specs.Soundness.{all}
+
+-- ---- ranges: column j, then those after it
+pub ranges-step : (d n : ℕ) (t : List Pauli) (j : ℕ) → j < length t → tableauRangeOf d (drop j t) ≡ orElse (pauliRangeOf d (column n t j)) (tableauRangeOf d (drop (j + 1) t))
+unfolding tableauRangeOf
+ranges-step d n t j h = rw (add-one j, drop-cons t j (column n [] 0) h) refl
+
+pub ranges-end : (d : ℕ) (t : List Pauli) (j : ℕ) → length t ≤ j → tableauRangeOf d (drop j t) ≡ 0
+unfolding tableauRangeOf
+ranges-end d t j h = rw (drop-of-length-le t h) refl
+
+-- ---- tests of the numbers from k up to m: k passes, k fails, none is left
+pub all-pass : (test : ℕ → Bool) (k m : ℕ) → k < m → test k ≡ true → all test (upFrom k (m - k)) ≡ all test (upFrom (k + 1) (m - (k + 1)))
+all-pass test k m h e =
+    let s : m - k ≡ suc (m - (k + 1)) = omega arith in
+    let p : suc k ≡ k + 1 = omega arith in
+    rw (s, e, p) refl
+
+pub all-fail : (test : ℕ → Bool) (k m : ℕ) → k < m → test k ≡ false → all test (upFrom k (m - k)) ≡ false
+all-fail test k m h e = let s : m - k ≡ suc (m - (k + 1)) = omega arith in rw (s, e) refl
+
+pub all-end : (test : ℕ → Bool) (k m : ℕ) → m ≤ k → all test (upFrom k (m - k)) ≡ true
+all-end test k m h = let s : m - k ≡ 0 = omega arith in rw s refl
+
+-- ---- products of powers: column j to its power, then those after it
+pub multiplied-next : (d n : ℕ) (x : Pauli) {y whole : Pauli} (t : List Pauli) (ks : List ℕ) (j : ℕ) → j < length t → j < length ks
+    → y ≡ product d x (power d n (column n t j) (getD ks j 0)) → whole ≡ multiplied d n x (drop j t) (drop j ks) → whole ≡ multiplied d n y (drop (j + 1) t) (drop (j + 1) ks)
+multiplied-next d n x t ks j h l e p = p ∙ rw (e, add-one j, drop-cons t j (column n [] 0) h, drop-cons ks j 0 l) refl
+
+pub multiplied-end : (d n : ℕ) (x : Pauli) (t : List Pauli) (ks : List ℕ) (j : ℕ) → length t ≤ j → multiplied d n x (drop j t) (drop j ks) ≡ x
+multiplied-end d n x t ks j h = rw (drop-of-length-le t h) refl
+
+-- ---- what a test's answer says of the test, and the test of the answer
+pub pairing-failed : (holds : Bool) {k : ℕ} {r : Check} → r ≡ checked (pairingOf holds) → r ≡ Refused k → holds ≡ false
+unfolding checked pairingOf
+pairing-failed true e g = let z : _≡_ {A = ℕ} 0 1 = cc in absurd (omega arith)
+pairing-failed false e g = refl
+
+pub pairing-refused : (holds : Bool) → holds ≡ false → Refused 7 ≡ checked (pairingOf holds)
+unfolding checked pairingOf
+pairing-refused holds e = rw e
+
+pub pairing-passed : (holds : Bool) → holds ≡ true → Good ≡ checked (pairingOf holds)
+unfolding checked pairingOf
+pairing-passed holds e = rw e
+
+pub parity-refused : (holds : Bool) → holds ≡ false → Refused 8 ≡ checked (parityOf holds)
+unfolding checked parityOf
+parity-refused holds e = rw e
+
+pub parity-passed : (holds : Bool) → holds ≡ true → Good ≡ checked (parityOf holds)
+unfolding checked parityOf
+parity-passed holds e = rw e
+
+-- ---- the power of column j: v at j, then w at j − n
+pub power-v : (n j : ℕ) (f g : ℕ → ℕ) → j < n → f j ≡ getD (tab f n ++ tab g n) j 0
+power-v n j f g h = sym (List·getD-append (tab f n) (tab g n) 0 j (omega (arith, tab-length f n)) ∙ tab-at f n j 0 h)
+
+pub power-w : (n j : ℕ) (f g : ℕ → ℕ) → n ≤ j → j < 2 * n → g (j - n) ≡ getD (tab f n ++ tab g n) j 0
+power-w n j f g l h =
+    let e : j ≡ length (tab f n) + (j - n) = omega (arith, tab-length f n) in
+    sym (ap (λ (i : ℕ). getD (tab f n ++ tab g n) i 0) e ∙ getD-append-add (tab f n) (tab g n) (j - n) 0 ∙ tab-at g n (j - n) 0 (omega arith))
+
+-- ---- before the first turn
+pub all-start : (test : ℕ → Bool) (m : ℕ) → all test (upFrom 0 m) ≡ all test (upFrom 0 (m - 0))
+all-start test m = let e : m - 0 ≡ m = omega arith in rw e refl
+
+-- ---- tables of what is listed by number
+table-from : {A : Type 0} (f : ℕ → A) (k m : ℕ) → map f (upFrom k m) ≡ tab (λ i. f (k + i)) m
+unfolding tab
+table-from f k zero = refl
+table-from {A} f k (suc m) =
+    ap₂ (λ (x : A) (l : List A). x ∷ l) (ap f (omega arith)) (table-from f (suc k) m ∙ tab-ext _ _ m (λ i h. ap f (omega arith)))
+
+pub table : {A : Type 0} (f : ℕ → A) (m : ℕ) → map f (upFrom 0 m) ≡ tab f m
+table f m = table-from f 0 m ∙ tab-ext _ f m (λ i h. ap f (zero-add i))
+
+-- ---- the columns of a tableau that is written, by their numbers
+pub tableau-table : (d n : ℕ) (rows : List Row) → tableauOf d n rows ≡ tab (λ j. run d rows (unit n j)) (2 * n)
+tableau-table d n rows = ap (map (run d rows)) (table (unit n) (2 * n)) ∙ tab-map (run d rows) (unit n) (2 * n)
+
+pub compose-table : (d n : ℕ) (t u : List Pauli) → length t ≡ 2 * n → compose d n t u ≡ tab (λ j. image d n u (column n t j)) (2 * n)
+compose-table d n t u e =
+    ap (map (image d n u)) (sym (ap (tab (column n t)) (sym e) ∙ tab-list (phaseOnly n 0) t)) ∙ tab-map (image d n u) (column n t) (2 * n)
+
+pub inverse-table : (d n : ℕ) (t : List Pauli) → inverse d n t ≡ tab (λ j. preimage d n t (unit n j)) (2 * n)
+inverse-table d n t = ap (map (preimage d n t)) (table (unit n) (2 * n)) ∙ tab-map (preimage d n t) (unit n) (2 * n)

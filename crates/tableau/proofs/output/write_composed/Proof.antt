@@ -1,0 +1,43 @@
+-- `tableau::output::write_composed` meets its contract. The invariant: column after column is written (`ColumnsWritten`).
+use mathlib.Core.Path.{_≡_, ap, _∙_}
+use mathlib.Core.List.{List}
+use Prim.Native.Nat.{ℕ, _*_, _-_, _≤_, _<_}
+use Rattle.pauli.specs.Pauli.{Pauli}
+use Rattle.tableau.specs.Tableau.{column, image}
+use Rattle.tableau.specs.Bytes.{decodeTableau}
+use Rattle.tableau.proofs.Columns.{column-range}
+use Rattle.tableau.proofs.Image.{image-range}
+use Rattle.tableau.proofs.Compose.{compose-formed}
+use Rattle.tableau.proofs.Loops.{compose-table}
+use Rattle.tableau.proofs.Bytes.{ColumnsWritten, columns-none, columns-next, columns-all}
+use native.Mathlib.Omega.{arith}
+use borrow.Author.Needs.{needs}
+use Rattle.tableau.proofs.output.write_composed.Statement.{statement}
+use Rattle.tableau.proofs.output.write_composed.Tie as tie
+
+-- column j of the first, mapped by the second
+abbrev mapped : List ℕ → List ℕ → ℕ → ℕ → ℕ → Pauli
+mapped first second d n j = image d n (decodeTableau n second) (column n (decodeTableau n first) j)
+
+abbrev Inv-loop : tie.InvT-loop
+Inv-loop first second d n out₀ m j₀ out j = (j ≤ m) × ColumnsWritten (mapped first second d n) out₀ out j
+
+abbrev μ-loop : tie.MeasureT-loop
+μ-loop first second d n out₀ m j₀ out j = m - j
+
+pub write-composed-spec : {M : Type 1} → statement M
+write-composed-spec = tie.close (tie.spec Inv-loop μ-loop
+    (λ c. search needs)  -- mul-m
+    (λ c. (omega arith, columns-none _ _))  -- loop-holds
+    (λ c κs. search needs)  -- column-requires
+    (λ c κs. let h = c .before .before .before .before .before .before .pre in (h .0, (h .1 .0 .1, h .1 .1 .0 .1 .ranges)))  -- image-requires
+    (λ c κs. search needs)  -- write-column-requires
+    (λ c. search needs)  -- add-j
+    (λ c. search needs)  -- loop-less
+    (λ c. let a = c .before .before .before .before .before .before .before .before .before .before .before .args in let l = c .before .before .before .before .before .before .before .loop in let f = c .before .before .before .before .before .before .before .before .before .before .before .pre .1 .1 .0 in
+      let pos : 0 < a .d = omega (arith, c .before .before .before .before .before .before .before .before .before .before .before .pre .0) in
+      (omega arith, columns-next (mapped (a .first .now) (a .second .now) (a .d) (a .n)) (l .j) (λ i. image-range pos (f .1 .ranges) (column-range i pos (f .0 .ranges))) (c .before .before .before .before .image .ensures ∙ ap (image (a .d) (a .n) (decodeTableau (a .n) (a .second .now))) (c .before .before .before .before .before .column .ensures)) (l .inv .1) (c .before .before .write-column .ensures)))  -- loop-again
+    (λ c. search needs)  -- same-length
+    (λ c. let a = c .before .before .before .before .before .args in let l = c .before .loop in let f = c .before .before .before .before .before .pre .1 .1 .0 in
+      columns-all (mapped (a .first .now) (a .second .now) (a .d) (a .n)) (omega arith) (compose-table (a .d) (a .n) (decodeTableau (a .n) (a .first .now)) (decodeTableau (a .n) (a .second .now)) (f .0 .columns))
+      (compose-formed (omega (arith, c .before .before .before .before .before .pre .0)) (f .0) (f .1)) (c .before .before .before .before .before .pre .1 .1 .1) (l .inv .1)))  -- returns

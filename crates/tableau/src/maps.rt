@@ -1,0 +1,85 @@
+// What a tableau does to a Pauli: the image, and the Pauli whose image is a given one.
+use arith::residue::Phase;
+use arith::residue::Residue;
+use pauli::Pauli;
+ghost use mathlib.Core.Path.{_≡_};
+ghost use mathlib.Core.List.{_++_};
+ghost use Prim.Native.Nat.{_*_, _≤_, _<_};
+ghost use lib.ListN.{length, getD};
+ghost use Rattle.arith.specs.Refusals.{Dimension};
+ghost use Rattle.pauli.specs.View.{view, entries};
+ghost use Rattle.tableau.specs.Tableau.{image, AllInRange};
+ghost use Rattle.tableau.specs.Inverse.{drawn, preimage};
+ghost use Rattle.tableau.specs.Bytes.{tableauBytes, decodeTableau};
+
+// The power that column j gets in the image of p: v at j below n, w at j − n from n on.
+fn exponent(p: Pauli, j: usize, n: usize) -> u16
+    requires { ⌜ (n ≤ 16) × (j < 2 * n) ⌝ }
+    ensures { λ r. ⌜ r ≡ getD (entries n (p .v) ++ entries n (p .w)) j 0 ⌝ }
+{
+    if j < n {
+        let v = p.v;
+        let x = v[j];
+        return x.0;
+    }
+    let w = p.w;
+    let x = w[j - n];
+    x.0
+}
+
+// The image of p: its phase alone, times column 1 to the power v1, and so on to column 2n to the power wn.
+pub fn image(t: &[u8], p: Pauli, d: u16, n: usize) -> Pauli
+    requires { ⌜ Dimension d × (n ≤ 16) ⌝ }
+    requires { ⌜ length (now t) ≡ tableauBytes n ⌝ }
+    requires { ⌜ AllInRange d n (decodeTableau n (now t)) ⌝ }
+    ensures { λ r. ⌜ view n r ≡ image d n (decodeTableau n (now (t .entry))) (view n p) ⌝ }
+{
+    let m = 2 * n;
+    let phase = p.phase;
+    let mut out = Pauli::phase_only(phase);
+    for j in 0..m {
+        let factor = crate::column(t, j, n).power(exponent(p, j, n), d, n);
+        out = out.product(factor, d, n);
+    }
+    out
+}
+
+// The entries of the Pauli whose image is q up to the phase: v at i is minus the commutation number of q with column n + i, w at i that with column i.
+fn drawn(t: &[u8], q: Pauli, d: u16, n: usize) -> Pauli
+    requires { ⌜ Dimension d × (n ≤ 16) ⌝ }
+    requires { ⌜ length (now t) ≡ tableauBytes n ⌝ }
+    ensures { λ r. ⌜ view n r ≡ drawn d n (decodeTableau n (now (t .entry))) (view n q) ⌝ }
+{
+    let mut v = [Residue(0); 16];
+    let mut w = [Residue(0); 16];
+    for i in 0..n {
+        let z = q.commutation(crate::column(t, n + i, n), d, n);
+        v[i] = z.negative(d);
+        w[i] = q.commutation(crate::column(t, i, n), d, n);
+    }
+    Pauli {
+        phase: Phase(0),
+        v: v,
+        w: w,
+    }
+}
+
+// The Pauli whose image is q: those entries, with the phase that makes it exact.
+pub fn preimage(t: &[u8], q: Pauli, d: u16, n: usize) -> Pauli
+    requires { ⌜ Dimension d × (n ≤ 16) ⌝ }
+    requires { ⌜ length (now t) ≡ tableauBytes n ⌝ }
+    requires { ⌜ AllInRange d n (decodeTableau n (now t)) ⌝ }
+    ensures { λ r. ⌜ view n r ≡ preimage d n (decodeTableau n (now (t .entry))) (view n q) ⌝ }
+{
+    let entries = drawn(t, q, d, n);
+    let reached = image(t, entries, d, n);
+    let wanted = q.phase;
+    let phase = wanted.minus(reached.phase, d);
+    let v = entries.v;
+    let w = entries.w;
+    Pauli {
+        phase: phase,
+        v: v,
+        w: w,
+    }
+}
