@@ -1,10 +1,42 @@
-# make test    everything: proofs, must-fail edits, programs; the last line is 'N passed, 0 failed'
-# make clean   removes what was built
+# make             the library
+# make test        everything: proofs, must-fail edits, hosts, comparison; the last line is 'N passed, 0 failed'
+# make lib         build/libclifford.a, beside include/clifford.h
+# make bench       the benchmark table
+# make install     header, archive and pkg-config file, under PREFIX
+# make clean       removes what was built
 
-.PHONY: test clean
+PREFIX ?= /usr/local
+VERSION = 1.0.0
 
-test:
+.PHONY: all test gate hosts lib install clean
+
+all: lib
+
+# The gate's log is kept, so that its last line can be printed last.
+test: gate hosts
+	@tail -n 1 build/gate.log
+
+gate:
 	@sh tests/gate
+
+hosts: reference compare ctest pyexample
+
+lib: build/libclifford.a
+
+SOURCES = crates.txt $(shell find crates -name '*.rt' -o -name '*.antt')
+
+build/libclifford.a: $(SOURCES)
+	@mkdir -p build
+	rt staticlib clifford > build/lib.log 2>&1 || { tail -n 40 build/lib.log; exit 1; }
+	cp target/staticlib/libclifford.a $@
+
+include host.mk
+
+install: build/libclifford.a
+	install -d $(DESTDIR)$(PREFIX)/include $(DESTDIR)$(PREFIX)/lib/pkgconfig
+	install -m 644 include/clifford.h $(DESTDIR)$(PREFIX)/include/
+	install -m 644 build/libclifford.a $(DESTDIR)$(PREFIX)/lib/
+	sed -e 's|@PREFIX@|$(PREFIX)|' -e 's|@VERSION@|$(VERSION)|' clifford.pc.in > $(DESTDIR)$(PREFIX)/lib/pkgconfig/clifford.pc
 
 clean:
 	rm -rf build target

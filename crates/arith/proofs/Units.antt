@@ -70,7 +70,8 @@ module _ (d q : ℕ) (large : 1 < d) (unit : gcd q d ≡ 1) where
 
 -- ---- the least multiplier
 module _ (d a b : ℕ) (pos : 0 < d) where
-  least-found : FirstUnder (fits a b d) d (leastMultiplier d a b)
+  -- it is the first number that fits, and below d
+  pub least-found : FirstUnder (fits a b d) d (leastMultiplier d a b)
   unfolding leastMultiplier
   least-found =
       let z = multiplier a b d pos in

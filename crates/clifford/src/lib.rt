@@ -8,6 +8,7 @@ ghost use Rattle.arith.specs.Answers.{Answered, Written};
 ghost use Rattle.arith.specs.Calls.{multiplierRefusal};
 ghost use Rattle.pauli.specs.Calls.{productRefusal, productBytes, powerRefusal, powerBytes, commutationRefusal, commutationNumber};
 ghost use Rattle.gates.specs.Calls.{runRefusal, runBytes, ticksRefusal, ticksOf};
+ghost use Rattle.synthesis.specs.Demand3.{Synthesised};
 ghost use Rattle.tableau.specs.Calls.{tableauRefusal, tableauAnswer, imageRefusal, imageAnswer, composeRefusal, composeAnswer, inverseRefusal, inverseAnswer};
 
 // The least multiplier of a and b.
@@ -56,6 +57,14 @@ pub extern "C" fn clifford_tableau(d: u16, n: u16, list: &[u8], out: &mut [u8]) 
     ensures { λ r. ⌜ Written (tableauRefusal d n (now (list .entry)) (length (now (out .entry)))) (tableauAnswer d n (now (list .entry))) (now (out .entry)) (now (out .exit)) r ⌝ }
 {
     tableau::calls::tableau_of(d, n, list, out)
+}
+
+// A list that does the tableau, and its number of rows.
+#[no_mangle]
+pub extern "C" fn clifford_synthesis(d: u16, n: u16, tableau: &[u8], out: &mut [u8]) -> Answer
+    ensures { λ r. ⌜ Synthesised d n (now (tableau .entry)) (now (out .entry)) (now (out .exit)) r ⌝ }
+{
+    synthesis::calls::synthesis(d, n, tableau, out)
 }
 
 // The image of p under the tableau.

@@ -10,7 +10,7 @@ use lib.ListN.{length, getD, List·getD-append}
 use lib.Dec.{leb, eqb}
 use borrow.Author.Tests.{leb-true, eqb-true, eqb-false, not-true, le-leb, eq-eqb, ne-eqb}
 use Rattle.arith.specs.Gcd.{gcd}
-use Rattle.arith.specs.Units.{Unit}
+use Rattle.arith.specs.Units.{Unit as IsUnit}
 use Rattle.arith.specs.Bytes.{tab, numberAt}
 use Rattle.arith.proofs.Bytes.{tab-more, tab-ext, tab-list, number-bytes, bytes-length}
 use Rattle.arith.proofs.Refusals.{both-held}
@@ -25,7 +25,7 @@ pub first-fails : {a : Bool} (b : Bool) → a ≡ false → false ≡ (a && b)
 first-fails b e = rw e
 
 -- ---- the kinds
-pub data Kind : ℕ → Type 0 where
+data Kind : ℕ → Type 0 where
   kind-f : Kind 1
   kind-s : Kind 2
   kind-a : Kind 3
@@ -43,16 +43,19 @@ known d (suc (suc (suc (suc (suc zero))))) h = kind-x
 known d (suc (suc (suc (suc (suc (suc zero)))))) h = kind-z
 known d (suc (suc (suc (suc (suc (suc (suc kind))))))) h = absurd (not-suc-le-zero h)
 
--- any other number is no kind
-pub no-kind : (d kind : ℕ) → kind ≢ 1 → kind ≢ 2 → kind ≢ 3 → kind ≢ 4 → kind ≢ 5 → kind ≢ 6 → highest d kind ≡ 0
-no-kind d zero a b c e f g = refl
-no-kind d (suc zero) a b c e f g = absurd (a refl)
-no-kind d (suc (suc zero)) a b c e f g = absurd (b refl)
-no-kind d (suc (suc (suc zero))) a b c e f g = absurd (c refl)
-no-kind d (suc (suc (suc (suc zero)))) a b c e f g = absurd (e refl)
-no-kind d (suc (suc (suc (suc (suc zero))))) a b c e f g = absurd (f refl)
-no-kind d (suc (suc (suc (suc (suc (suc zero)))))) a b c e f g = absurd (g refl)
-no-kind d (suc (suc (suc (suc (suc (suc (suc kind))))))) a b c e f g = refl
+-- any other number is no kind: what the last arm of a match on all of them tells
+abbrev pub NoKind : ℕ → Type 0
+NoKind kind = (((((Unit {0} × (kind ≢ 1)) × (kind ≢ 2)) × (kind ≢ 3)) × (kind ≢ 4)) × (kind ≢ 5)) × (kind ≢ 6)
+
+pub no-kind : (d kind : ℕ) → NoKind kind → highest d kind ≡ 0
+no-kind d zero z = refl
+no-kind d (suc zero) z = absurd (z .0 .0 .0 .0 .0 .1 refl)
+no-kind d (suc (suc zero)) z = absurd (z .0 .0 .0 .0 .1 refl)
+no-kind d (suc (suc (suc zero))) z = absurd (z .0 .0 .0 .1 refl)
+no-kind d (suc (suc (suc (suc zero)))) z = absurd (z .0 .0 .1 refl)
+no-kind d (suc (suc (suc (suc (suc zero))))) z = absurd (z .0 .1 refl)
+no-kind d (suc (suc (suc (suc (suc (suc zero)))))) z = absurd (z .1 refl)
+no-kind d (suc (suc (suc (suc (suc (suc (suc kind))))))) z = refl
 
 -- ---- what a legal row's tests tell
 record Tests (d n kind i j k : ℕ) : Type 0 where
@@ -102,10 +105,10 @@ module _ (d n : ℕ) (w : WrittenRow) (legal : legalRow d n w ≡ true) where
   pub legal-first : (1 ≤ w .first) × (w .first ≤ n)
   legal-first = let t = tests d n w legal in (t .first-low, t .first-high)
 
-  pub legal-second : w .kind ≡ 3 → (1 ≤ w .second) × (w .second ≤ n)
+  pub legal-second : takesTwo (w .kind) ≡ true → (1 ≤ w .second) × (w .second ≤ n)
   legal-second e = let t = two-held n (w .first) (w .second) (rw e at (tests d n w legal .second)) in (t .low, t .high)
 
-  pub legal-unit : w .kind ≡ 4 → Unit d (w .power)
+  pub legal-unit : w .kind ≡ 4 → IsUnit d (w .power)
   legal-unit e = eqb-true (gcd (w .power) d) 1 (rw e at (tests d n w legal .unit))
 
   pub legal-kind : highest d (w .kind) ≡ 0 → ⊥

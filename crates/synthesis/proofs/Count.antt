@@ -47,10 +47,10 @@ module _ (d n t : ℕ) where
   v-cleared j s = let k = minus d (vAt n s t j) in maybe k 0 (A t j k) d s
 
   partner-w : (j : ℕ) (s : State) → Adds 1 s (clearPartnerW d n t j s)
-  partner-w j s = let k = wAt n s (n + t) j in maybe k 0 (A j t k) d s
+  partner-w j s = let k = wAt n s (n + t) j % d in maybe k 0 (A j t k) d s
 
   partner-v : (j : ℕ) (s : State) → Adds 1 s (clearPartnerV d n t j s)
-  partner-v j s = let k = vAt n s (n + t) j in maybe k 0 (A t j k) d s
+  partner-v j s = let k = vAt n s (n + t) j % d in maybe k 0 (A t j k) d s
 
   pivoted : (s : State) → Adds 1 s (pivot d n t s)
   pivoted s = let k = minus d (wAt n s t t) in maybe k 1 (M t k) d s
@@ -59,7 +59,7 @@ module _ (d n t : ℕ) where
   sheared s = let k = minus d (wAt n s t t) in maybe k 0 (S t k) d s
 
   partner-sheared : (s : State) → Adds 1 s (partnerShear d n t s)
-  partner-sheared s = let k = wAt n s (n + t) t in maybe k 0 (S t k) d s
+  partner-sheared s = let k = wAt n s (n + t) t % d in maybe k 0 (S t k) d s
 
   turned : (s : State) → Adds 1 s (fourierOnce d n t s)
   turned s = record { most = omega arith }

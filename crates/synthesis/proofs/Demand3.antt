@@ -8,8 +8,8 @@ use Prim.Native.Nat.{ℕ, _+_, _*_, _≤_, _<_}
 use native.Mathlib.Omega.{arith}
 use lib.ListN.{length}
 use lib.Seq.{ext-getD}
-use Rattle.pauli.specs.Pauli.{Pauli, InRange, unit, phaseOnly}
-use Rattle.gates.specs.Row.{Row, AllLegal, run}
+use Rattle.pauli.specs.Pauli.{Pauli, InRange, phaseOnly}
+use Rattle.gates.specs.Row.{Row, run}
 use Rattle.tableau.specs.Tableau.{WellFormed, Sound, column, tableauOf, image}
 use Rattle.tableau.proofs.Run.{run-image, tableau-formed, tableau-column, tableau-sound}
 use Rattle.tableau.specs.Soundness.{soundnessOf}

@@ -18,7 +18,7 @@ use Rattle.arith.specs.Units.{leastMultiplier}
 use Rattle.arith.proofs.Units.{least-below, least-gcd, unit-pos}
 use Rattle.pauli.specs.Pauli.{Pauli, InRange, dot}
 use Rattle.pauli.proofs.Dots.{dvd-dot}
-use Rattle.synthesis.specs.Reduce.{State, each, later, minus, gatherInQudit, gatherQudit, pivot, clearW, fourierOnce, clearV, shear, firstColumn}
+use Rattle.synthesis.specs.Reduce.{State, each, later, minus, gatherInQudit, gatherQudit, pivot, clearW, fourierOnce, clearV, shear, gathered, firstColumn}
 use Rattle.synthesis.proofs.Entries.{IsX, IsZ, vOf, wOf}
 use Rattle.synthesis.proofs.Steps.{Base, ZeroBefore, col, col-range, put-s, put-a, put-m, put-f, base-s, base-a, base-m, base-f, first-before, pair, each-law}
 
@@ -273,8 +273,8 @@ module _ {d n : ℕ} (one : 1 < d) {t₀ : List Pauli} {t : ℕ} (tn : t < n) wh
             (λ i ti l. a .w-kept i (λ (e : i ≡ t). omega arith) ∙ h .w-none i ti l);
       }
 
-  pub first-law : (s : State) → Base d n t₀ t s → FirstDone d n t₀ t (firstColumn d n t s)
-  first-law s b =
+  gathered-law : (s : State) → Base d n t₀ t s → Gathering d n t₀ t n (gathered d n t s)
+  gathered-law s b =
       let s1 = each (gatherInQudit d n t) (t ∷ later d n t) s in
       let h1 : InQudit d n t₀ t n s1 = subst (λ (x : ℕ). InQudit d n t₀ t x s1) (omega arith)
       (each-law (InQudit d n t₀ t) (gatherInQudit d n t) t (suc (n - suc t)) s (record { base = b; divides = λ i l m. absurd (omega arith) }) (λ j s′ l m. in-qudit-step j s′ l (omega arith))) in
@@ -284,9 +284,16 @@ module _ {d n : ℕ} (one : 1 < d) {t₀ : List Pauli} {t : ℕ} (tn : t < n) wh
         v-all = λ i l m. dvd-as (ap (vOf (col n s1 t)) (omega arith)) (h1 .divides t (omega arith) tn);
         w-all = λ i l m. dvd-as (ap (wOf (col n s1 t)) (omega arith)) (gcd-left (wOf (col n s1 t) t) d);
       } in
-      let h3 = later-law (Gathering d n t₀ t) (gatherQudit d n t) d n t s1 tn h2 gather-step in
-      let s3 = each (gatherQudit d n t) (later d n t) s1 in
-      let h4 = later-law (ClearingW d n t₀ t) (clearW d n t) d n t (pivot d n t s3) tn (pivot-step s3 h3) clear-w-step in
+      later-law (Gathering d n t₀ t) (gatherQudit d n t) d n t s1 tn h2 gather-step
+
+  -- the pivot's power is a unit
+  pub pivot-unit : (s : State) → Base d n t₀ t s → gcd (minus d (wOf (col n (gathered d n t s) t) t)) d ≡ 1
+  pivot-unit s b = neg-unit d (wOf (col n (gathered d n t s) t) t) (omega arith) (w-unit (gathered-law s b))
+
+  pub first-law : (s : State) → Base d n t₀ t s → FirstDone d n t₀ t (firstColumn d n t s)
+  first-law s b =
+      let s3 = gathered d n t s in
+      let h4 = later-law (ClearingW d n t₀ t) (clearW d n t) d n t (pivot d n t s3) tn (pivot-step s3 (gathered-law s b)) clear-w-step in
       let s4 = each (clearW d n t) (later d n t) (pivot d n t s3) in
       let h5 = later-law (ClearingV d n t₀ t) (clearV d n t) d n t (fourierOnce d n t s4) tn (turn-step s4 h4) clear-v-step in
       shear-step (each (clearV d n t) (later d n t) (fourierOnce d n t s4)) h5

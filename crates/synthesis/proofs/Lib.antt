@@ -4,8 +4,13 @@ pub mod Demand3
 pub mod Entries
 pub mod Examples
 pub mod FirstColumn
+pub mod Handed
 pub mod Phases
+pub mod Progress
 pub mod Reached
+pub mod Reversed
 pub mod SecondColumn
+pub mod Stages
 pub mod Steps
 pub mod Theorem
+pub mod Views

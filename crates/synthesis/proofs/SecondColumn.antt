@@ -2,13 +2,14 @@
 use mathlib.Core.Path.{_≡_, sym, _∙_, ap, subst}
 use mathlib.Core.List.{List, [], _∷_}
 use Prim.Native.Nat.{ℕ, suc, _+_, _*_, _-_, _%_, _≤_, _<_}
+use native.Mathlib.Nat.{mod-lt}
 use native.Mathlib.Omega.{arith}
 use Rattle.arith.proofs.Cong.{Cong, cong-of-eq, cong-trans, cong-eq}
 use Rattle.arith.specs.Residues.{neg}
 use Rattle.arith.proofs.Ring.{ring₁, ring₁-by, times, _also_, quote}
 use Rattle.arith.proofs.Remainders.{mod-of}
 use Rattle.pauli.specs.Pauli.{Pauli}
-use Rattle.pauli.proofs.Ranges.{w-less, v-less}
+use Rattle.pauli.proofs.Ranges.{w-less}
 use Rattle.tableau.specs.Tableau.{upFrom}
 use Rattle.synthesis.specs.Reduce.{State, each, later, clearPartnerW, clearPartnerV, fourierOnce, partnerShear, fourierBack, firstColumn, secondColumn, stage}
 use Rattle.synthesis.proofs.Entries.{IsX, IsZ, vOf, wOf, x-after-a, z-after-a, z-after-s, x-to-z, z-to-x, comm-x-l}
@@ -22,11 +23,11 @@ partner-one d x l m h = cong-eq (cong-trans h (go d (omega arith))) m l
     go : (d : ℕ) → 1 ≤ d → Cong d (neg d (d - 1)) 1
     go d p = ring₁ d [] p (search quote depth 30) (search quote depth 30) tt
 
-clear-partner-w : (d w x : ℕ) → 0 < d → x ≡ 1 → (w + neg d (w * x)) % d ≡ 0
-clear-partner-w d w x p h = mod-of (w + neg d (w * x)) (ring₁-by d (w ∷ x ∷ []) p (times {z = neg d w} (search quote) (search quote) (search quote) (cong-of-eq h)) (search quote depth 30) (search quote depth 30) tt) p
+clear-partner-w : (d w x : ℕ) → 0 < d → x ≡ 1 → (w + neg d (w % d * x)) % d ≡ 0
+clear-partner-w d w x p h = mod-of (w + neg d (w % d * x)) (ring₁-by d (w ∷ x ∷ []) p (times {z = neg d w} (search quote) (search quote) (search quote) (cong-of-eq h)) (search quote depth 30) (search quote depth 30) tt) p
 
-clear-partner-v : (d v x : ℕ) → 0 < d → Cong d x (neg d 1) → (v + v * x) % d ≡ 0
-clear-partner-v d v x p h = mod-of (v + v * x) (ring₁-by d (v ∷ x ∷ []) p (times {z = v} (search quote) (search quote) (search quote) h) (search quote depth 30) (search quote depth 30) tt) p
+clear-partner-v : (d v x : ℕ) → 0 < d → Cong d x (neg d 1) → (v + v % d * x) % d ≡ 0
+clear-partner-v d v x p h = mod-of (v + v % d * x) (ring₁-by d (v ∷ x ∷ []) p (times {z = v} (search quote) (search quote) (search quote) h) (search quote depth 30) (search quote depth 30) tt) p
 
 turned : (d x y : ℕ) → 0 < d → x ≡ 1 → y ≡ neg d x % d → Cong d y (neg d 1)
 turned d x y p h e = ring₁-by d (x ∷ y ∷ []) p
@@ -68,8 +69,7 @@ module _ {d n : ℕ} (one : 1 < d) {t₀ : List Pauli} {t : ℕ} (tn : t < n) wh
   partner-w-step : (j : ℕ) (s : State) → t < j → j < n → PartnerW d n t₀ t j s → PartnerW d n t₀ t (suc j) (clearPartnerW d n t j s)
   partner-w-step j s tj jn h =
       let p = col n s (n + t) in
-      let r = col-range (h .base .reached) (n + t) in
-      let st = put-a (h .base .reached) j t (wOf p j) jn tn (λ (e : j ≡ t). omega arith) (w-less r j) in
+      let st = put-a (h .base .reached) j t (wOf p j % d) jn tn (λ (e : j ≡ t). omega arith) (mod-lt (wOf p j) (omega arith)) in
       let a = st .after (n + t) in
       let q = col n (clearPartnerW d n t j s) (n + t) in
       record {
@@ -98,8 +98,7 @@ module _ {d n : ℕ} (one : 1 < d) {t₀ : List Pauli} {t : ℕ} (tn : t < n) wh
   partner-v-step : (j : ℕ) (s : State) → t < j → j < n → PartnerV d n t₀ t j s → PartnerV d n t₀ t (suc j) (clearPartnerV d n t j s)
   partner-v-step j s tj jn h =
       let p = col n s (n + t) in
-      let r = col-range (h .base .reached) (n + t) in
-      let st = put-a (h .base .reached) t j (vOf p j) tn jn (λ (e : t ≡ j). omega arith) (v-less r j) in
+      let st = put-a (h .base .reached) t j (vOf p j % d) tn jn (λ (e : t ≡ j). omega arith) (mod-lt (vOf p j) (omega arith)) in
       let a = st .after (n + t) in
       let q = col n (clearPartnerV d n t j s) (n + t) in
       record {
@@ -115,8 +114,7 @@ module _ {d n : ℕ} (one : 1 < d) {t₀ : List Pauli} {t : ℕ} (tn : t < n) wh
   partner-shear : (s : State) → PartnerV d n t₀ t n s → PartnerSheared d n t₀ t (partnerShear d n t s)
   partner-shear s h =
       let p = col n s (n + t) in
-      let r = col-range (h .base .reached) (n + t) in
-      let st = put-s (h .base .reached) t (wOf p t) tn (w-less r t) in
+      let st = put-s (h .base .reached) t (wOf p t % d) tn (mod-lt (wOf p t) (omega arith)) in
       let a = st .after (n + t) in
       record {
         base = base-s (h .base) (omega arith) st;
@@ -159,6 +157,7 @@ module _ {d n : ℕ} (one : 1 < d) {t₀ : List Pauli} {t : ℕ} (tn : t < n) wh
   stage-law s b = second-law (firstColumn d n t s) (first-law one tn s b)
 
 module _ {d n : ℕ} (one : 1 < d) {t₀ : List Pauli} where
-  pub stages-law : (s : State) → Base d n t₀ 0 s → Base d n t₀ n (each (stage d n) (upFrom 0 n) s)
-  stages-law s b = subst (λ (x : ℕ). Base d n t₀ x (each (stage d n) (upFrom 0 n) s)) (omega arith)
-      (each-law (Base d n t₀) (stage d n) 0 n s b (λ j s′ l m h. stage-law one (omega arith) s′ h))
+  -- after the stages before j
+  pub stages-law : (s : State) → Base d n t₀ 0 s → (j : ℕ) → j ≤ n → Base d n t₀ j (each (stage d n) (upFrom 0 j) s)
+  stages-law s b j jn = subst (λ (x : ℕ). Base d n t₀ x (each (stage d n) (upFrom 0 j) s)) (omega arith)
+      (each-law (Base d n t₀) (stage d n) 0 j s b (λ i s′ l m h. stage-law one (omega arith) s′ h))

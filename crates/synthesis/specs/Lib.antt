@@ -1,2 +1,6 @@
 pub mod Demand3
+pub mod Progress
 pub mod Reduce
+pub mod Reversal
+pub mod Turns
+pub mod View

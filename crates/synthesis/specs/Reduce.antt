@@ -1,6 +1,6 @@
 -- The reduction of a tableau to the unit tableau by rows, each put behind all columns. A state is the tableau so far and the rows so far, the last one first.
 use mathlib.Core.List.{List, [], _∷_, map}
-use mathlib.Core.Bool.{Bool, true, false, cond}
+use mathlib.Core.Bool.{cond}
 use Prim.Native.Nat.{ℕ, suc, _+_, _-_, _/_, _%_}
 use lib.ListN.{getD}
 use lib.Dec.{eqb}
@@ -13,6 +13,10 @@ use Rattle.tableau.specs.Tableau.{column, upFrom}
 pub record State : Type 0 where
   pub tableau : List Pauli
   pub rows : List Row
+
+-- no row yet
+abbrev pub start : List Pauli → State
+start t = record { tableau = t; rows = [] }
 
 -- one row put behind; a power that does nothing is no row
 abbrev pub put : ℕ → Row → State → State
@@ -40,6 +44,7 @@ vAt n s c i = getD (column n (s .tableau) c .v) i 0
 abbrev pub wAt : ℕ → State → ℕ → ℕ → ℕ
 wAt n s c i = getD (column n (s .tableau) c .w) i 0
 
+-- powers are reduced modulo d, so that they are legal whatever the entries are
 abbrev pub minus : ℕ → ℕ → ℕ
 minus d x = neg d x % d
 
@@ -66,10 +71,10 @@ module _ (d n t : ℕ) where
   clearV j s = putA d t j (minus d (vAt n s t j)) s
 
   abbrev pub clearPartnerW : ℕ → State → State
-  clearPartnerW j s = putA d j t (wAt n s (n + t) j) s
+  clearPartnerW j s = putA d j t (wAt n s (n + t) j % d) s
 
   abbrev pub clearPartnerV : ℕ → State → State
-  clearPartnerV j s = putA d t j (vAt n s (n + t) j) s
+  clearPartnerV j s = putA d t j (vAt n s (n + t) j % d) s
 
   abbrev pub pivot : State → State
   pivot s = putM d t (minus d (wAt n s t t)) s
@@ -78,7 +83,7 @@ module _ (d n t : ℕ) where
   shear s = putS d t (minus d (wAt n s t t)) s
 
   abbrev pub partnerShear : State → State
-  partnerShear s = putS d t (wAt n s (n + t) t) s
+  partnerShear s = putS d t (wAt n s (n + t) t % d) s
 
   abbrev pub fourierOnce : State → State
   fourierOnce s = put d (F t 1) s
@@ -86,9 +91,16 @@ module _ (d n t : ℕ) where
   abbrev pub fourierBack : State → State
   fourierBack s = put d (F t 3) s
 
+  -- column t once its entries are gathered: gcd(w, d) at t divides every one
+  abbrev pub gathered : State → State
+  gathered s = each gatherQudit later (each gatherInQudit (t ∷ later) s)
+
+  -- and cleared to unit t up to phase
+  abbrev pub cleared : State → State
+  cleared s = shear (each clearV later (fourierOnce (each clearW later (pivot s))))
+
   abbrev pub firstColumn : State → State
-  firstColumn s =
-      shear (each clearV later (fourierOnce (each clearW later (pivot (each gatherQudit later (each gatherInQudit (t ∷ later) s))))))
+  firstColumn s = cleared (gathered s)
 
   abbrev pub secondColumn : State → State
   secondColumn s =
@@ -108,4 +120,4 @@ reduce d n s = each (phases d n) (upFrom 0 n) (each (stage d n) (upFrom 0 n) s)
 
 -- the list that does the tableau: the rows' undo rows, the last one first, which is the order of the state
 unfoldable pub synthesised : ℕ → ℕ → List Pauli → List Row
-synthesised d n t = map (undo d) (reduce d n (record { tableau = t; rows = [] }) .rows)
+synthesised d n t = map (undo d) (reduce d n (start t) .rows)

@@ -4,7 +4,7 @@ use mathlib.Core.List.{List}
 use mathlib.Core.Bool.{true}
 use Prim.Native.Nat.{ℕ, _≤_}
 use lib.ListN.{length}
-use Rattle.arith.specs.Refusals.{orElse, givenOf, sizeOf, listSizeOf, roomOf, rowOf, pairingOf, parityOf}
+use Rattle.arith.specs.Refusals.{givenOf, sizeOf, listSizeOf, roomOf, pairingOf, parityOf}
 use Rattle.arith.proofs.Refusals.{orElse-none, orElse-skip, Given, given-good, size-good, room-good, row-good}
 use Rattle.pauli.specs.Pauli.{Pauli, InRange}
 use Rattle.pauli.specs.Bytes.{pauliBytes, decode}

@@ -54,7 +54,7 @@ decode-formed {n = n} b e = record { columns = decode-length n b; ranges = range
 numbers-length : {d n : ℕ} {p : Pauli} → InRange d n p → length (numbersOf p) ≡ 1 + 2 * n
 numbers-length r = omega (arith, entries-length r)
 
-pub all-length : {d n : ℕ} {t : List Pauli} → AllInRange d n t → length (tableauNumbers t) ≡ length t * (1 + 2 * n)
+all-length : {d n : ℕ} {t : List Pauli} → AllInRange d n t → length (tableauNumbers t) ≡ length t * (1 + 2 * n)
 all-length {n = n} none = omega arith
 all-length {n = n} (more {c = c} {cs = cs} r rs) = length-append (numbersOf c) (tableauNumbers cs) ∙ omega (arith, numbers-length r, all-length rs)
 
@@ -90,7 +90,7 @@ decode-encode {n = n} {t} rest pos g =
     ∙ ap (tab (column n t)) (sym (g .columns)) ∙ tab-list (phaseOnly n 0) t
 
 -- ---- writing
-pub tab-range : {d n : ℕ} (g : ℕ → Pauli) (m : ℕ) → ((i : ℕ) → InRange d n (g i)) → AllInRange d n (tab g m)
+tab-range : {d n : ℕ} (g : ℕ → Pauli) (m : ℕ) → ((i : ℕ) → InRange d n (g i)) → AllInRange d n (tab g m)
 unfolding tab
 tab-range g zero h = none
 tab-range g (suc m) h = more (h 0) (tab-range (λ i. g (suc i)) m (λ i. h (suc i)))

@@ -61,18 +61,21 @@ tableau-image {d} {n} {t} one g s = ext-getD (phaseOnly n 0) (map (image d n t) 
     f : WellFormed d n (map (image d n t) (units n))
     f = map-formed m (units-formed d n one)
 
--- ---- composition
+-- ---- composition: "first tableau, then second: each column of the first mapped by the second"
+-- "two tableaus one after the other" are a tableau again, well formed and sound where they are
 pub compose-formed : {d n : ℕ} {t u : List Pauli} → 0 < d → WellFormed d n t → WellFormed d n u → WellFormed d n (compose d n t u)
 compose-formed pos g f = map-kept (λ p a. image-range pos (f .ranges) a) g
 
 pub compose-sound : {d n : ℕ} {t u : List Pauli} → 1 < d → WellFormed d n t → Sound d n t → WellFormed d n u → Sound d n u → Sound d n (compose d n t u)
 compose-sound one g r f s = map-sound (omega arith) (image-hom one f s) g r
 
+-- and do to every Pauli what the first does and then the second
 pub image-compose : {d n : ℕ} {t u : List Pauli} → 1 < d → WellFormed d n t → Sound d n t → WellFormed d n u → Sound d n u → (p : Pauli) → InRange d n p → image d n (compose d n t u) p ≡ image d n u (image d n t p)
 image-compose {d} {n} {t} {u} one g r f s p a =
     ap (λ (x : List Pauli). image d n x p) (ap (map (image d n u)) (sym (tableau-image one g r)) ∙ map-map (image d n u) (image d n t) (units n))
     ∙ sym (hom-image one (hom-then (image-hom one g r) (image-hom one f s)) p a)
 
+-- the unit Paulis before or after a tableau change nothing, and the order of composing does not matter
 pub compose-units-left : {d n : ℕ} {t : List Pauli} → 1 < d → WellFormed d n t → Sound d n t → compose d n (units n) t ≡ t
 compose-units-left one g s = tableau-image one g s
 

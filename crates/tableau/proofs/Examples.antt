@@ -1,7 +1,8 @@
 -- The inverse and the image at given tableaus, computed.
 use mathlib.Core.Path.{_≡_, refl}
-use mathlib.Core.List.{[], _∷_}
+use mathlib.Core.List.{List, [], _∷_}
 use Rattle.arith.specs.Residues.{neg}
+use Rattle.pauli.specs.Pauli.{Pauli}
 use Rattle.gates.specs.Row.{F, S, A, X, Z, run}
 use Rattle.tableau.specs.Tableau.{tableauOf, image, units, compose}
 use Rattle.tableau.specs.Inverse.{inverse}
@@ -26,3 +27,11 @@ both-ways = refl
 image-list : image 4 2 (tableauOf 4 2 (F 0 1 ∷ A 0 1 3 ∷ S 1 5 ∷ [])) (record { phase = 5; v = 1 ∷ 3 ∷ []; w = 2 ∷ 3 ∷ [] }) ≡ run 4 (F 0 1 ∷ A 0 1 3 ∷ S 1 5 ∷ []) (record { phase = 5; v = 1 ∷ 3 ∷ []; w = 2 ∷ 3 ∷ [] })
 unfolding neg
 image-list = refl
+
+-- where a formula for the phases of the inverse that takes entries modulo d goes wrong: d = 2, rows A from 2 to 1 and S on 1
+abbrev twisted : List Pauli
+twisted = tableauOf 2 2 (A 1 0 1 ∷ S 0 1 ∷ [])
+
+twisted-undone : (compose 2 2 twisted (inverse 2 2 twisted) ≡ units 2) × (compose 2 2 (inverse 2 2 twisted) twisted ≡ units 2)
+unfolding neg
+twisted-undone = (refl, refl)

@@ -83,6 +83,7 @@ twist-units d n {p} {q} one a b = shift-cancel d _ _ (total d n (units n) (plus 
     pos : 0 < d
     pos = omega arith
 
+-- "For accepted tableaus the image of a product is the product of the images"
 pub image-product : (d n : ℕ) {t : List Pauli} {p q : Pauli} → 1 < d → WellFormed d n t → Sound d n t → InRange d n p → InRange d n q
     → image d n t (product d p q) ≡ product d (image d n t p) (image d n t q)
 image-product d n {t} {p} {q} one g s a b =
@@ -100,6 +101,7 @@ image-product d n {t} {p} {q} one g s a b =
     ls : List ℕ
     ls = q .v ++ q .w
 
+-- the image is in range, and a phase alone is its own image: so the image of a sound tableau is a map that keeps products
 pub image-range : {d n : ℕ} {t : List Pauli} {p : Pauli} → 0 < d → AllInRange d n t → InRange d n p → InRange d n (image d n t p)
 image-range {n = n} {p = p} pos ts a = multiplied-range (p .v ++ p .w) pos (phaseOnly-range n (p .phase) pos (a .phase-below)) ts
 
@@ -110,8 +112,10 @@ image-hom {d} {n} one g s = record {
   phases = λ h l. image-phase d n h (omega arith) l (g .ranges);
 }
 
+-- commutation numbers are kept
 pub image-comm : {d n : ℕ} {t : List Pauli} → 1 < d → WellFormed d n t → Sound d n t → (p q : Pauli) → InRange d n p → InRange d n q → comm d (image d n t p) (image d n t q) ≡ comm d p q
 image-comm one g s = hom-comm (omega arith) (image-hom one g s)
 
+-- different Paulis have different images
 pub image-injective : {d n : ℕ} {t : List Pauli} → 1 < d → WellFormed d n t → Sound d n t → (p q : Pauli) → InRange d n p → InRange d n q → image d n t p ≡ image d n t q → p ≡ q
 image-injective one g s = hom-injective one (image-hom one g s)

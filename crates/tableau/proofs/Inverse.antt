@@ -94,17 +94,18 @@ module _ {d n : ℕ} {t : List Pauli} (one : 1 < d) (g : WellFormed d n t) (s : 
     phases = λ h l. ap (preimage d n t) (sym (image-hom one g s .phases h l)) ∙ preimage-image (phaseOnly n h) (phaseOnly-range n h (omega arith) l);
   }
 
-  -- ---- the inverse tableau
+  -- ---- the inverse tableau, "the tableau that undoes another": well formed and sound
   pub inverse-formed : WellFormed d n (inverse d n t)
   inverse-formed = hom-formed one preimage-hom
 
   pub inverse-sound : Sound d n (inverse d n t)
   inverse-sound = hom-sound one preimage-hom
 
+  -- it carries every Pauli back
   pub image-inverse : (q : Pauli) → InRange d n q → image d n (inverse d n t) q ≡ preimage d n t q
   image-inverse q b = sym (hom-image one preimage-hom q b)
 
-  -- t, then its inverse
+  -- "composed in either order it gives the unit Paulis": t, then its inverse
   pub inverse-right : compose d n t (inverse d n t) ≡ units n
   inverse-right =
       ap (map (image d n (inverse d n t))) (sym (tableau-image one g s))
@@ -115,7 +116,7 @@ module _ {d n : ℕ} {t : List Pauli} (one : 1 < d) (g : WellFormed d n t) (s : 
   pub inverse-left : compose d n (inverse d n t) t ≡ units n
   inverse-left = map-map (image d n t) (preimage d n t) (units n) ∙ map-same image-preimage (units-range d n one)
 
-  -- and it is the only one
+  -- and it is the only tableau that does
   pub inverse-unique : {u : List Pauli} → WellFormed d n u → Sound d n u → compose d n t u ≡ units n → u ≡ inverse d n t
   inverse-unique {u} f r e =
       sym (tableau-image one f r)

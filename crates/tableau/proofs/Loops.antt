@@ -1,6 +1,6 @@
--- What the loops over the columns keep: a definition at the whole tableau is the same definition at the columns that are left.
+-- What the loops over the columns keep: a definition at the whole tableau is the same definition at the columns that are left. Assumes nothing.
 use mathlib.Core.Path.{_≡_, refl, sym, ap, ap₂, _∙_}
-use mathlib.Core.List.{List, [], _∷_, _++_, map}
+use mathlib.Core.List.{List, _∷_, _++_, map}
 use mathlib.Core.Bool.{Bool, true, false}
 use Prim.Native.Nat.{ℕ, zero, suc, _+_, _*_, _-_, _≤_, _<_}
 use native.Mathlib.Nat.{zero-add}
@@ -24,13 +24,16 @@ use Rattle.tableau.specs.Soundness.{all}
 -- ---- ranges: column j, then those after it
 pub ranges-step : (d n : ℕ) (t : List Pauli) (j : ℕ) → j < length t → tableauRangeOf d (drop j t) ≡ orElse (pauliRangeOf d (column n t j)) (tableauRangeOf d (drop (j + 1) t))
 unfolding tableauRangeOf
-ranges-step d n t j h = rw (add-one j, drop-cons t j (column n [] 0) h) refl
+ranges-step d n t j h = rw (add-one j, drop-cons t j (phaseOnly n 0) h) refl
 
 pub ranges-end : (d : ℕ) (t : List Pauli) (j : ℕ) → length t ≤ j → tableauRangeOf d (drop j t) ≡ 0
 unfolding tableauRangeOf
 ranges-end d t j h = rw (drop-of-length-le t h) refl
 
--- ---- tests of the numbers from k up to m: k passes, k fails, none is left
+-- ---- tests of the numbers from k up to m: before the first turn, k passes, k fails, none is left
+pub all-start : (test : ℕ → Bool) (m : ℕ) → all test (upFrom 0 m) ≡ all test (upFrom 0 (m - 0))
+all-start test m = let e : m - 0 ≡ m = omega arith in rw e refl
+
 pub all-pass : (test : ℕ → Bool) (k m : ℕ) → k < m → test k ≡ true → all test (upFrom k (m - k)) ≡ all test (upFrom (k + 1) (m - (k + 1)))
 all-pass test k m h e =
     let s : m - k ≡ suc (m - (k + 1)) = omega arith in
@@ -46,7 +49,7 @@ all-end test k m h = let s : m - k ≡ 0 = omega arith in rw s refl
 -- ---- products of powers: column j to its power, then those after it
 pub multiplied-next : (d n : ℕ) (x : Pauli) {y whole : Pauli} (t : List Pauli) (ks : List ℕ) (j : ℕ) → j < length t → j < length ks
     → y ≡ product d x (power d n (column n t j) (getD ks j 0)) → whole ≡ multiplied d n x (drop j t) (drop j ks) → whole ≡ multiplied d n y (drop (j + 1) t) (drop (j + 1) ks)
-multiplied-next d n x t ks j h l e p = p ∙ rw (e, add-one j, drop-cons t j (column n [] 0) h, drop-cons ks j 0 l) refl
+multiplied-next d n x t ks j h l e p = p ∙ rw (e, add-one j, drop-cons t j (phaseOnly n 0) h, drop-cons ks j 0 l) refl
 
 pub multiplied-end : (d n : ℕ) (x : Pauli) (t : List Pauli) (ks : List ℕ) (j : ℕ) → length t ≤ j → multiplied d n x (drop j t) (drop j ks) ≡ x
 multiplied-end d n x t ks j h = rw (drop-of-length-le t h) refl
@@ -81,10 +84,6 @@ pub power-w : (n j : ℕ) (f g : ℕ → ℕ) → n ≤ j → j < 2 * n → g (j
 power-w n j f g l h =
     let e : j ≡ length (tab f n) + (j - n) = omega (arith, tab-length f n) in
     sym (ap (λ (i : ℕ). getD (tab f n ++ tab g n) i 0) e ∙ getD-append-add (tab f n) (tab g n) (j - n) 0 ∙ tab-at g n (j - n) 0 (omega arith))
-
--- ---- before the first turn
-pub all-start : (test : ℕ → Bool) (m : ℕ) → all test (upFrom 0 m) ≡ all test (upFrom 0 (m - 0))
-all-start test m = let e : m - 0 ≡ m = omega arith in rw e refl
 
 -- ---- tables of what is listed by number
 table-from : {A : Type 0} (f : ℕ → A) (k m : ℕ) → map f (upFrom k m) ≡ tab (λ i. f (k + i)) m

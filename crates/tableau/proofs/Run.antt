@@ -11,16 +11,18 @@ use Rattle.tableau.proofs.Columns.{units-range, column-map, column-unit
 use Rattle.tableau.proofs.Image.{hom-image}
 
 module _ {d n : ℕ} (one : 1 < d) {rows : List Row} (legal : AllLegal d n rows) where
+  -- "the image of a Pauli under a tableau": a list carries every Pauli to its image under the list's tableau
   pub run-image : (p : Pauli) → InRange d n p → run d rows p ≡ image d n (tableauOf d n rows) p
   run-image p a = hom-image one (run-hom one legal) p a
 
+  -- the tableau of a list is well formed and sound
   pub tableau-formed : WellFormed d n (tableauOf d n rows)
   tableau-formed = hom-formed one (run-hom one legal)
 
   pub tableau-sound : Sound d n (tableauOf d n rows)
   tableau-sound = hom-sound one (run-hom one legal)
 
-  -- column j is what the list makes of unit j
+  -- "holds in column j what the list makes of unit Pauli j"
   pub tableau-column : (j : ℕ) → j < 2 * n → column n (tableauOf d n rows) j ≡ run d rows (unit n j)
   tableau-column j l = column-map (omega arith) (run-hom one legal) (units n) j ∙ ap (run d rows) (column-units n j l)
 

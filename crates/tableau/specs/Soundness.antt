@@ -1,6 +1,6 @@
 -- Refusals 7 and 8 of document 01's table as tests that a program can run: over all columns j, and in it over all k > j; then over all columns.
 use mathlib.Core.List.{List, [], _∷_}
-use mathlib.Core.Bool.{Bool, true, false, _&&_}
+use mathlib.Core.Bool.{Bool, true, _&&_}
 use Prim.Native.Nat.{ℕ, suc, _*_, _-_}
 use lib.Dec.{eqb}
 use Rattle.arith.specs.Refusals.{orElse, pairingOf, parityOf}

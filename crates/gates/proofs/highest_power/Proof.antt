@@ -19,4 +19,4 @@ highest-power-spec = tie.close (tie.spec
     (λ c. rw (c .match .keys4))  -- returns-4
     (λ c. rw (c .match .keys5))  -- returns-5
     (λ c. rw (c .match .keys6))  -- returns-6
-    (λ c. let r = c .match .rest in sym (no-kind _ _ (r .0 .0 .0 .0 .0 .1) (r .0 .0 .0 .0 .1) (r .0 .0 .0 .1) (r .0 .0 .1) (r .0 .1) (r .1))))  -- returns-7
+    (λ c. sym (no-kind _ _ (c .match .rest))))  -- returns-7

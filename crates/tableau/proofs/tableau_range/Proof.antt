@@ -1,13 +1,12 @@
-use Rattle.tableau.proofs.Bytes.{decode-length}
-use Rattle.pauli.specs.Range.{pauliRangeOf}
 -- `tableau::tableau_range` meets its contract. The invariant: the columns from j on decide.
-use mathlib.Core.Path.{_≡_, refl, sym, ap, _∙_}
-use Prim.Native.Nat.{_*_, _-_, _≤_}
+use mathlib.Core.Path.{_≡_, refl, _∙_}
+use Prim.Native.Nat.{_-_, _≤_}
 use lib.ListN.{drop}
+use Rattle.arith.proofs.Refusals.{good, stop, passes}
+use Rattle.tableau.proofs.Bytes.{decode-length}
 use Rattle.tableau.specs.Bytes.{decodeTableau}
 use Rattle.tableau.specs.Range.{tableauRangeOf}
 use Rattle.tableau.proofs.Loops.{ranges-step, ranges-end}
-use Rattle.arith.proofs.Refusals.{good, stop, passes}
 use native.Mathlib.Omega.{arith}
 use borrow.Author.Needs.{needs}
 use Rattle.tableau.proofs.tableau_range.Statement.{statement}
@@ -19,6 +18,23 @@ Inv-loop t d n m j₀ j = (j ≤ m) × (tableauRangeOf d (decodeTableau n t) ≡
 abbrev μ-loop : tie.MeasureT-loop
 μ-loop t d n m j₀ j = m - j
 
+returns : tie.Need-returns Inv-loop μ-loop
+returns c =
+    let a = c .before .before .before .before .before .before .before .args in
+    let e = c .before .before .before .before .before .loop .inv .1 ∙ ranges-step (a .d) (a .n) (decodeTableau (a .n) (a .t .now)) (c .before .before .before .before .before .loop .j) (omega (arith, decode-length (a .n) (a .t .now))) in
+    rw e (stop _ _ (rw (c .before .before .before .column .ensures) at (c .before .before .range .ensures)) (c .enum-told2 .given .1) .same)
+
+loop-again : tie.Need-loop-again Inv-loop μ-loop
+loop-again c =
+    let a = c .before .before .before .before .before .before .before .args in
+    let e = c .before .before .before .before .before .loop .inv .1 ∙ ranges-step (a .d) (a .n) (decodeTableau (a .n) (a .t .now)) (c .before .before .before .before .before .loop .j) (omega (arith, decode-length (a .n) (a .t .now))) in
+    (omega arith, rw (good _ (rw (c .before .before .before .column .ensures) at (c .before .before .range .ensures)) (c .enum-told .given .1)) at e)
+
+returns-2 : tie.Need-returns-2 Inv-loop μ-loop
+returns-2 c =
+    let a = c .before .before .before .args in
+    passes _ (c .before .loop .inv .1 ∙ ranges-end (a .d) (decodeTableau (a .n) (a .t .now)) (c .before .loop .j) (omega (arith, decode-length (a .n) (a .t .now))))
+
 pub tableau-range-spec : {M : Type 1} → statement M
 tableau-range-spec = tie.close (tie.spec Inv-loop μ-loop
     (λ c. search needs)  -- mul-m
@@ -27,12 +43,8 @@ tableau-range-spec = tie.close (tie.spec Inv-loop μ-loop
     (λ c κs. search needs)  -- range-requires
     (λ c. search needs)  -- enum-told
     (λ c. search needs)  -- enum-told-2
-    (λ c. let a = c .before .before .before .before .before .before .before .args in
-    let e = c .before .before .before .before .before .loop .inv .1 ∙ ranges-step (a .d) (a .n) (decodeTableau (a .n) (a .t .now)) (c .before .before .before .before .before .loop .j) (omega (arith, decode-length (a .n) (a .t .now))) in
-    rw e (stop _ _ (rw (c .before .before .before .column .ensures) at (c .before .before .range .ensures)) (c .enum-told2 .given .1) .same))  -- returns
+    returns
     (λ c. search needs)  -- add-j
     (λ c. search needs)  -- loop-less
-    (λ c. let a = c .before .before .before .before .before .before .before .args in
-    let e = c .before .before .before .before .before .loop .inv .1 ∙ ranges-step (a .d) (a .n) (decodeTableau (a .n) (a .t .now)) (c .before .before .before .before .before .loop .j) (omega (arith, decode-length (a .n) (a .t .now))) in
-    (omega arith, rw (good _ (rw (c .before .before .before .column .ensures) at (c .before .before .range .ensures)) (c .enum-told .given .1)) at e))  -- loop-again
-    (λ c. let a = c .before .before .before .args in passes _ (c .before .loop .inv .1 ∙ ranges-end (a .d) (decodeTableau (a .n) (a .t .now)) (c .before .loop .j) (omega (arith, decode-length (a .n) (a .t .now))))))  -- returns-2
+    loop-again
+    returns-2)

@@ -1,10 +1,10 @@
 -- `gates::Ready::apply` meets its contract: each arm is the effect of its kind, and a legal row has one of the six.
 use mathlib.Core.Path.{_≡_, _∙_, ap, sym}
-use Prim.Native.Nat.{ℕ, _-_}
+use mathlib.Core.Bool.{true}
+use Prim.Native.Nat.{ℕ, _-_, _<_}
 use Rattle.pauli.specs.Pauli.{Pauli}
-use Rattle.pauli.specs.View.{view}
 use Rattle.gates.specs.Row.{apply}
-use Rattle.gates.specs.Written.{WrittenRow, rowOfKind, meant}
+use Rattle.gates.specs.Written.{WrittenRow, rowOfKind, meant, takesTwo}
 use Rattle.gates.specs.View.{viewRow}
 use Rattle.gates.proofs.Written.{legal-first, legal-second, legal-kind, no-kind}
 use native.Mathlib.Omega.{arith}
@@ -17,23 +17,30 @@ of-kind : (d : ℕ) (w : WrittenRow) (kind : ℕ) (p : Pauli) → w .kind ≡ ki
 unfolding meant
 of-kind d w kind p e = ap (λ (x : ℕ). apply d (rowOfKind x (w .first - 1) (w .second - 1) (w .power)) p) (sym e)
 
+-- the first qudit, and the second where the kind takes one
+first : (c : tie.After-struct-known) → let a = c .before .before .args in (a .self .row .first - 1 < a .n) × (a .self .row .first - 1 < 16)
+first c = let f = legal-first _ _ _ (c .before .before .pre .1 .0) in omega arith
+
+second : (c : tie.After-struct-known) → let a = c .before .before .args in takesTwo (a .self .row .kind) ≡ true → (a .self .row .second - 1 < a .n) × (a .self .row .second - 1 < 16)
+second c e = let s = legal-second _ _ _ (c .before .before .pre .1 .0) e in omega arith
+
 pub apply-spec : {M : Type 1} → statement M
 apply-spec = tie.close (tie.spec
     (λ c. search needs)  -- cast-i
     (λ c. legal-first _ _ _ (c .before .before .pre .1 .0) .0)  -- sub-i
-    (λ c κs. (c .before .before .before .pre .0 .0, omega (arith, legal-first _ _ _ (c .before .before .before .pre .1 .0))))  -- effect-f-requires
-    (λ c κs. (c .before .before .before .pre .0 .0, omega (arith, legal-first _ _ _ (c .before .before .before .pre .1 .0))))  -- effect-s-requires
+    (λ c κs. (c .before .before .before .pre .0 .0, first (c .before) .1))  -- effect-f-requires
+    (λ c κs. (c .before .before .before .pre .0 .0, first (c .before) .1))  -- effect-s-requires
     (λ c. search needs)  -- cast-effect-a
-    (λ c. legal-second _ _ _ (c .before .before .before .before .pre .1 .0) (c .before .match .keys3) .0)  -- sub-effect-a
-    (λ c κs. let f = legal-first _ _ _ (c .before .before .before .before .pre .1 .0) in let s = legal-second _ _ _ (c .before .before .before .before .pre .1 .0) (c .before .match .keys3) in (c .before .before .before .before .pre .0 .0, omega arith))  -- effect-a-requires
-    (λ c κs. ((c .before .before .before .pre .0 .0, omega (arith, legal-first _ _ _ (c .before .before .before .pre .1 .0))), c .before .before .before .pre .1 .1 (c .match .keys4)))  -- effect-m-requires
-    (λ c κs. (c .before .before .before .pre .0 .0, omega (arith, legal-first _ _ _ (c .before .before .before .pre .1 .0))))  -- effect-x-requires
-    (λ c κs. (c .before .before .before .pre .0 .0, omega (arith, legal-first _ _ _ (c .before .before .before .pre .1 .0))))  -- effect-z-requires
-    (λ c. let a = c .before .before .before .before .args in c .effect-f .ensures (a .n) (omega (arith, legal-first _ _ _ (c .before .before .before .before .pre .1 .0))) (c .before .before .before .before .pre .0 .1) ∙ of-kind (a .d) (viewRow (a .self .row)) 1 (view (a .n) (a .p)) (c .before .match .keys1))  -- returns
-    (λ c. let a = c .before .before .before .before .args in c .effect-s .ensures (a .n) (omega (arith, legal-first _ _ _ (c .before .before .before .before .pre .1 .0))) (c .before .before .before .before .pre .0 .1) ∙ of-kind (a .d) (viewRow (a .self .row)) 2 (view (a .n) (a .p)) (c .before .match .keys2))  -- returns-2
-    (λ c. let a = c .before .before .before .before .before .args in let f = legal-first _ _ _ (c .before .before .before .before .before .pre .1 .0) in let s = legal-second _ _ _ (c .before .before .before .before .before .pre .1 .0) (c .before .before .match .keys3) in
-    c .effect-a .ensures (a .n) (omega arith) (omega arith) (c .before .before .before .before .before .pre .0 .1) ∙ of-kind (a .d) (viewRow (a .self .row)) 3 (view (a .n) (a .p)) (c .before .before .match .keys3))  -- returns-3
-    (λ c. let a = c .before .before .before .before .args in c .effect-m .ensures (a .n) (omega (arith, legal-first _ _ _ (c .before .before .before .before .pre .1 .0))) (c .before .before .before .before .pre .0 .1) ∙ of-kind (a .d) (viewRow (a .self .row)) 4 (view (a .n) (a .p)) (c .before .match .keys4))  -- returns-4
-    (λ c. let a = c .before .before .before .before .args in c .effect-x .ensures (a .n) (omega (arith, legal-first _ _ _ (c .before .before .before .before .pre .1 .0))) (c .before .before .before .before .pre .0 .1) ∙ of-kind (a .d) (viewRow (a .self .row)) 5 (view (a .n) (a .p)) (c .before .match .keys5))  -- returns-5
-    (λ c. let a = c .before .before .before .before .args in c .effect-z .ensures (a .n) (omega (arith, legal-first _ _ _ (c .before .before .before .before .pre .1 .0))) (c .before .before .before .before .pre .0 .1) ∙ of-kind (a .d) (viewRow (a .self .row)) 6 (view (a .n) (a .p)) (c .before .match .keys6))  -- returns-6
-    (λ c. let r = c .match .rest in absurd (legal-kind _ _ _ (c .before .before .before .pre .1 .0) (no-kind _ _ (r .0 .0 .0 .0 .0 .1) (r .0 .0 .0 .0 .1) (r .0 .0 .0 .1) (r .0 .0 .1) (r .0 .1) (r .1)))))  -- returns-7
+    (λ c. legal-second _ _ _ (c .before .before .before .before .pre .1 .0) (ap takesTwo (c .before .match .keys3)) .0)  -- sub-effect-a
+    (λ c κs. let f = first (c .before .before) in let s = second (c .before .before) (ap takesTwo (c .before .match .keys3)) in (c .before .before .before .before .pre .0 .0, omega arith))  -- effect-a-requires
+    (λ c κs. ((c .before .before .before .pre .0 .0, first (c .before) .1), c .before .before .before .pre .1 .1 (c .match .keys4)))  -- effect-m-requires
+    (λ c κs. (c .before .before .before .pre .0 .0, first (c .before) .1))  -- effect-x-requires
+    (λ c κs. (c .before .before .before .pre .0 .0, first (c .before) .1))  -- effect-z-requires
+    (λ c. c .effect-f .ensures _ (first (c .before .before) .0) (c .before .before .before .before .pre .0 .1) ∙ of-kind _ (viewRow (c .before .before .before .before .args .self .row)) 1 _ (c .before .match .keys1))  -- returns
+    (λ c. c .effect-s .ensures _ (first (c .before .before) .0) (c .before .before .before .before .pre .0 .1) ∙ of-kind _ (viewRow (c .before .before .before .before .args .self .row)) 2 _ (c .before .match .keys2))  -- returns-2
+    (λ c. let f = first (c .before .before .before) in let s = second (c .before .before .before) (ap takesTwo (c .before .before .match .keys3)) in
+    c .effect-a .ensures (c .before .before .before .before .before .args .n) (omega arith) (omega arith) (c .before .before .before .before .before .pre .0 .1) ∙ of-kind _ (viewRow (c .before .before .before .before .before .args .self .row)) 3 _ (c .before .before .match .keys3))  -- returns-3
+    (λ c. c .effect-m .ensures _ (first (c .before .before) .0) (c .before .before .before .before .pre .0 .1) ∙ of-kind _ (viewRow (c .before .before .before .before .args .self .row)) 4 _ (c .before .match .keys4))  -- returns-4
+    (λ c. c .effect-x .ensures _ (first (c .before .before) .0) (c .before .before .before .before .pre .0 .1) ∙ of-kind _ (viewRow (c .before .before .before .before .args .self .row)) 5 _ (c .before .match .keys5))  -- returns-5
+    (λ c. c .effect-z .ensures _ (first (c .before .before) .0) (c .before .before .before .before .pre .0 .1) ∙ of-kind _ (viewRow (c .before .before .before .before .args .self .row)) 6 _ (c .before .match .keys6))  -- returns-6
+    (λ c. absurd (legal-kind _ _ _ (c .before .before .before .pre .1 .0) (no-kind _ _ (c .match .rest)))))  -- returns-7

@@ -1,5 +1,5 @@
-use borrow.Author.Tests.{not-true, not-false}
 -- `tableau::checks::later_pairs` meets its contract. The invariant: the tests of the columns from k on decide.
+use borrow.Author.Tests.{not-true, not-false}
 use mathlib.Core.Path.{_≡_, refl, sym, _∙_}
 use Prim.Native.Nat.{_+_, _*_, _-_, _≤_}
 use native.Mathlib.Numerals.{add-one}
@@ -18,6 +18,17 @@ Inv-loop t j d n m first k₀ k = (j + 1 ≤ k) × ((k ≤ m) × (laterPass d n 
 abbrev μ-loop : tie.MeasureT-loop
 μ-loop t j d n m first k₀ k = m - k
 
+returns : tie.Need-returns Inv-loop μ-loop
+returns c = pairing-refused _ (c .before .before .before .loop .inv .1 .1 ∙ all-fail _ _ _ (c .before .before .loop-test .taken) (sym (c .before .pair-passes .ensures) ∙ not-true _ (c .if1 .taken)))
+
+loop-again : tie.Need-loop-again Inv-loop μ-loop
+loop-again c = (omega arith, (omega arith, c .before .before .before .loop .inv .1 .1 ∙ all-pass _ _ _ (c .before .before .loop-test .taken) (sym (c .before .pair-passes .ensures) ∙ not-false _ (c .if1 .left))))
+
+returns-2 : tie.Need-returns-2 Inv-loop μ-loop
+returns-2 c =
+    let e : 2 * c .before .before .before .before .args .n ≤ c .before .loop .k = omega arith in
+    pairing-passed _ (c .before .loop .inv .1 .1 ∙ all-end _ _ _ e)
+
 pub later-pairs-spec : {M : Type 1} → statement M
 later-pairs-spec = tie.close (tie.spec Inv-loop μ-loop
     (λ c. search needs)  -- mul-m
@@ -25,8 +36,8 @@ later-pairs-spec = tie.close (tie.spec Inv-loop μ-loop
     (λ c. search needs)  -- add-k
     (λ c. (omega arith, (omega arith, rw (add-one (c .before .before .args .j)) refl)))  -- loop-holds
     (λ c κs. let v = c .before .before .column .ensures in search needs)  -- pair-passes-requires
-    (λ c. pairing-refused _ (c .before .before .before .loop .inv .1 .1 ∙ all-fail _ _ _ (c .before .before .loop-test .taken) (sym (c .before .pair-passes .ensures) ∙ not-true _ (c .if1 .taken))))  -- returns
+    returns
     (λ c. search needs)  -- add-k-2
     (λ c. search needs)  -- loop-less
-    (λ c. (omega arith, (omega arith, c .before .before .before .loop .inv .1 .1 ∙ all-pass _ _ _ (c .before .before .loop-test .taken) (sym (c .before .pair-passes .ensures) ∙ not-false _ (c .if1 .left)))))  -- loop-again
-    (λ c. let e : 2 * c .before .before .before .before .args .n ≤ c .before .loop .k = omega arith in pairing-passed _ (c .before .loop .inv .1 .1 ∙ all-end _ _ _ e)))  -- returns-2
+    loop-again
+    returns-2)

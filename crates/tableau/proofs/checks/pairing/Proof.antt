@@ -1,13 +1,13 @@
-use mathlib.Core.Bool.{Bool}
 -- `tableau::checks::pairing` meets its contract. The invariant: the tests of the columns from j on decide.
-use mathlib.Core.Path.{_≡_, refl, sym, ap, _∙_}
+use mathlib.Core.Bool.{Bool}
+use mathlib.Core.Path.{_≡_, sym, ap, _∙_}
 use Prim.Native.Nat.{_*_, _-_, _≤_}
 use Rattle.arith.proofs.Refusals.{good, pairing-good}
+use Rattle.arith.specs.Refusals.{checked, pairingOf}
 use Rattle.tableau.specs.Tableau.{upFrom}
 use Rattle.tableau.specs.Bytes.{decodeTableau}
 use Rattle.tableau.specs.Soundness.{all, laterPass, pairingHolds}
 use Rattle.tableau.proofs.Loops.{all-start, all-pass, all-fail, all-end, pairing-failed, pairing-passed}
-use Rattle.arith.specs.Refusals.{checked, pairingOf}
 use native.Mathlib.Omega.{arith}
 use borrow.Author.Needs.{needs}
 use Rattle.tableau.proofs.checks.pairing.Statement.{statement}
@@ -19,16 +19,33 @@ Inv-loop t d n m j₀ j = (j ≤ m) × (pairingHolds d n (decodeTableau n t) ≡
 abbrev μ-loop : tie.MeasureT-loop
 μ-loop t d n m j₀ j = m - j
 
+loop-holds : tie.Need-loop-holds Inv-loop μ-loop
+loop-holds c =
+    let a = c .before .args in
+    (omega arith, all-start (laterPass (a .d) (a .n) (decodeTableau (a .n) (a .t .now))) (2 * a .n))
+
+returns : tie.Need-returns Inv-loop μ-loop
+returns c =
+    let f = pairing-failed _ (c .before .before .later-pairs .ensures) (c .enum-told2 .given .1) in
+    c .before .before .later-pairs .ensures ∙ ap (λ (b : Bool). checked (pairingOf b)) (f ∙ sym (c .before .before .before .before .loop .inv .1 ∙ all-fail _ _ _ (c .before .before .before .loop-test .taken) f))
+
+loop-again : tie.Need-loop-again Inv-loop μ-loop
+loop-again c = (omega arith, c .before .before .before .before .loop .inv .1 ∙ all-pass _ _ _ (c .before .before .before .loop-test .taken) (pairing-good _ (good _ (c .before .before .later-pairs .ensures) (c .enum-told .given .1))))
+
+returns-2 : tie.Need-returns-2 Inv-loop μ-loop
+returns-2 c =
+    let e : 2 * c .before .before .before .args .n ≤ c .before .loop .j = omega arith in
+    pairing-passed _ (c .before .loop .inv .1 ∙ all-end _ _ _ e)
+
 pub pairing-spec : {M : Type 1} → statement M
 pairing-spec = tie.close (tie.spec Inv-loop μ-loop
     (λ c. search needs)  -- mul-m
-    (λ c. let a = c .before .args in (omega arith, all-start (laterPass (a .d) (a .n) (decodeTableau (a .n) (a .t .now))) (2 * a .n)))  -- loop-holds
+    loop-holds
     (λ c κs. search needs)  -- later-pairs-requires
     (λ c. search needs)  -- enum-told
     (λ c. search needs)  -- enum-told-2
-    (λ c. let f = pairing-failed _ (c .before .before .later-pairs .ensures) (c .enum-told2 .given .1) in
-    c .before .before .later-pairs .ensures ∙ ap (λ (b : Bool). checked (pairingOf b)) (f ∙ sym (c .before .before .before .before .loop .inv .1 ∙ all-fail _ _ _ (c .before .before .before .loop-test .taken) f)))  -- returns
+    returns
     (λ c. search needs)  -- add-j
     (λ c. search needs)  -- loop-less
-    (λ c. (omega arith, c .before .before .before .before .loop .inv .1 ∙ all-pass _ _ _ (c .before .before .before .loop-test .taken) (pairing-good _ (good _ (c .before .before .later-pairs .ensures) (c .enum-told .given .1)))))  -- loop-again
-    (λ c. let e : 2 * c .before .before .before .args .n ≤ c .before .loop .j = omega arith in pairing-passed _ (c .before .loop .inv .1 ∙ all-end _ _ _ e)))  -- returns-2
+    loop-again
+    returns-2)

@@ -1,6 +1,5 @@
 -- `tableau::checks::wanted` meets its contract.
 use borrow.Author.Tests.{eq-eqb, ne-eqb}
-use native.Mathlib.Omega.{arith}
 use borrow.Author.Needs.{needs}
 use Rattle.tableau.proofs.checks.wanted.Statement.{statement}
 use Rattle.tableau.proofs.checks.wanted.Tie as tie

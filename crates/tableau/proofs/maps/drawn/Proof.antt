@@ -1,5 +1,6 @@
 -- `tableau::maps::drawn` meets its contract. The invariant: the entries filled are the commutation numbers with their columns (`fill-more`).
-use mathlib.Core.Path.{_≡_, refl, sym, ap, ap₂, _∙_}
+-- entry i of v, and of w
+use mathlib.Core.Path.{_≡_, refl, sym, ap, _∙_}
 use mathlib.Core.List.{List}
 use Prim.Native.Nat.{ℕ, _+_, _-_, _%_, _≤_}
 use lib.ListN.{length, length-set}
@@ -18,7 +19,6 @@ use borrow.Author.Needs.{needs}
 use Rattle.tableau.proofs.maps.drawn.Statement.{statement}
 use Rattle.tableau.proofs.maps.drawn.Tie as tie
 
--- entry i of v, and of w
 abbrev drawn-v : ℕ → ℕ → List Pauli → Pauli → ℕ → ℕ
 drawn-v d n t q i = neg d (comm d q (column n t (n + i))) % d
 
@@ -31,9 +31,25 @@ Inv-loop t q d n v₀ w₀ i₀ v w i = (i ≤ n) × ((length v ≡ 16) × ((len
 abbrev μ-loop : tie.MeasureT-loop
 μ-loop t q d n v₀ w₀ i₀ v w i = n - i
 
+loop-holds : tie.Need-loop-holds Inv-loop μ-loop
+loop-holds c = (omega arith, (refl, (refl, (tab-none _ ∙ sym (tab-none _), tab-none _ ∙ sym (tab-none _)))))
+
+loop-again : tie.Need-loop-again Inv-loop μ-loop
+loop-again c =
+    let a = c .before .before .before .before .before .before .before .before .args in
+    let l = c .before .before .before .before .before .before .loop in
+    (omega arith, (simp length-set (l .inv .1 .0), (simp length-set (l .inv .1 .1 .0), (fill-more _ (l .v) (l .i) _ (omega arith) (c .before .before .negative .ensures ∙ ap (λ (x : ℕ). neg (a .d) x % a .d) (c .before .before .before .commutation .ensures ∙ ap (comm (a .d) (view (a .n) (a .q))) (c .before .before .before .before .column .ensures))) (l .inv .1 .1 .1 .0), fill-more _ (l .w) (l .i) _ (omega arith) (c .commutation2 .ensures ∙ ap (comm (a .d) (view (a .n) (a .q))) (c .before .column2 .ensures)) (l .inv .1 .1 .1 .1)))))
+
+returns : tie.Need-returns Inv-loop μ-loop
+returns c =
+    let a = c .before .before .before .args in
+    let l = c .before .loop in
+    let e : l .i ≡ a .n = omega arith in
+    pauli-path refl (rw e at (l .inv .1 .1 .1 .0) ∙ sym (table _ _)) (rw e at (l .inv .1 .1 .1 .1) ∙ sym (table _ _))
+
 pub drawn-spec : {M : Type 1} → statement M
 drawn-spec = tie.close (tie.spec Inv-loop μ-loop
-    (λ c. (omega arith, (refl, (refl, (tab-none _ ∙ sym (tab-none _), tab-none _ ∙ sym (tab-none _))))))  -- loop-holds
+    loop-holds
     (λ c. search needs)  -- add-column
     (λ c κs. search needs)  -- column-requires
     (λ c κs. search needs)  -- commutation-requires
@@ -46,19 +62,5 @@ drawn-spec = tie.close (tie.spec Inv-loop μ-loop
     (λ c. search needs)  -- array-set-from-w
     (λ c. search needs)  -- add-i
     (λ c. search needs)  -- loop-less
-    (λ c. let a = c .before .before .before .before .before .before .before .before .args in let l = c .before .before .before .before .before .before .loop in (
-      omega arith,
-      (
-        simp length-set (l .inv .1 .0),
-        (
-          simp length-set (l .inv .1 .1 .0),
-          (
-            fill-more _ (l .v) (l .i) _ (omega arith) (c .before .before .negative .ensures ∙ ap (λ (x : ℕ). neg (a .d) x % a .d) (c .before .before .before .commutation .ensures ∙ ap (comm (a .d) (view (a .n) (a .q))) (c .before .before .before .before .column .ensures))) (l .inv .1 .1 .1 .0),
-            fill-more _ (l .w) (l .i) _ (omega arith) (c .commutation2 .ensures ∙ ap (comm (a .d) (view (a .n) (a .q))) (c .before .column2 .ensures)) (l .inv .1 .1 .1 .1),
-          ),
-        ),
-      ),
-    ))  -- loop-again
-    (λ c. let a = c .before .before .before .args in let l = c .before .loop in
-    let e : l .i ≡ a .n = omega arith in
-    pauli-path refl (rw e at (l .inv .1 .1 .1 .0) ∙ sym (table _ _)) (rw e at (l .inv .1 .1 .1 .1) ∙ sym (table _ _))))  -- returns
+    loop-again
+    returns)

@@ -1,10 +1,10 @@
 -- `tableau::maps::image` meets its contract. The invariant: what is multiplied so far, times the powers of the columns from j on, is the image.
-use mathlib.Core.Path.{_≡_, refl, sym, ap, ap₂, _∙_}
+use mathlib.Core.Path.{_≡_, sym, ap, ap₂, _∙_}
 use mathlib.Core.List.{_++_}
-use Prim.Native.Nat.{_*_, _-_, _≤_}
-use lib.ListN.{drop, length, length-append}
+use Prim.Native.Nat.{_-_, _≤_}
+use lib.ListN.{drop, length-append}
 use Rattle.arith.proofs.Bytes.{tab-length}
-use Rattle.pauli.specs.Pauli.{Pauli, product, power, phaseOnly}
+use Rattle.pauli.specs.Pauli.{Pauli, product, power}
 use Rattle.pauli.specs.View.{at, view, entries}
 use Rattle.tableau.specs.Tableau.{multiplied, image}
 use Rattle.tableau.specs.Bytes.{decodeTableau}
@@ -22,25 +22,41 @@ Inv-loop t p d n m out₀ j₀ out j = (j ≤ m) × (image d n (decodeTableau n 
 abbrev μ-loop : tie.MeasureT-loop
 μ-loop t p d n m out₀ j₀ out j = m - j
 
+loop-holds : tie.Need-loop-holds Inv-loop μ-loop
+loop-holds c =
+    let a = c .before .before .before .args in
+    (omega arith, ap (λ (x : Pauli). multiplied (a .d) (a .n) x (decodeTableau (a .n) (a .t .now)) (entries (a .n) (a .p .v) ++ entries (a .n) (a .p .w))) (sym (c .phase-only .ensures (a .n))))
+
+power-requires : tie.Need-power-requires Inv-loop μ-loop
+power-requires c κs =
+    let a = c .before .before .before .before .before .before .before .args in
+    (search needs, rw (c .before .column .ensures) (column-range (c .before .before .before .loop .j) (omega arith) (c .before .before .before .before .before .before .before .pre .1 .1)))
+
+add-j : tie.Need-add-j Inv-loop μ-loop
+add-j c = omega (arith, c .before .before .before .before .before .before .before .before .before .pre .0)
+
+loop-again : tie.Need-loop-again Inv-loop μ-loop
+loop-again c =
+    let a = c .before .before .before .before .before .before .before .before .before .args in
+    let l = c .before .before .before .before .before .loop in
+    (omega arith, multiplied-next (a .d) (a .n) (view (a .n) (l .out)) (decodeTableau (a .n) (a .t .now)) (entries (a .n) (a .p .v) ++ entries (a .n) (a .p .w)) (l .j) (omega (arith, decode-length (a .n) (a .t .now))) (omega (arith, length-append (entries (a .n) (a .p .v)) (entries (a .n) (a .p .w)), tab-length (at (a .p .v)) (a .n), tab-length (at (a .p .w)) (a .n))) (c .product .ensures ∙ ap (product (a .d) (view (a .n) (l .out))) (c .before .power .ensures ∙ ap₂ (power (a .d) (a .n)) (c .before .before .before .column .ensures) (c .before .before .exponent .ensures))) (l .inv .1))
+
+returns : tie.Need-returns Inv-loop μ-loop
+returns c =
+    let a = c .before .before .before .before .before .args in
+    let l = c .before .loop in
+    sym (l .inv .1 ∙ multiplied-end (a .d) (a .n) (view (a .n) (l .out)) (decodeTableau (a .n) (a .t .now)) (entries (a .n) (a .p .v) ++ entries (a .n) (a .p .w)) (l .j) (omega (arith, decode-length (a .n) (a .t .now))))
+
 pub image-spec : {M : Type 1} → statement M
 image-spec = tie.close (tie.spec Inv-loop μ-loop
     (λ c. search needs)  -- mul-m
     (λ c κs. search needs)  -- phase-only-requires
-    (λ c. let a = c .before .before .before .args in
-    (omega arith, ap (λ (x : Pauli). multiplied (a .d) (a .n) x (decodeTableau (a .n) (a .t .now)) (entries (a .n) (a .p .v) ++ entries (a .n) (a .p .w))) (sym (c .phase-only .ensures (a .n)))))  -- loop-holds
+    loop-holds
     (λ c κs. search needs)  -- column-requires
     (λ c κs. search needs)  -- exponent-requires
-    (λ c κs. let a = c .before .before .before .before .before .before .before .args in (search needs, rw (c .before .column .ensures) (column-range (c .before .before .before .loop .j) (omega arith) (c .before .before .before .before .before .before .before .pre .1 .1))))  -- power-requires
+    power-requires
     (λ c κs. search needs)  -- product-requires
-    (λ c. omega (arith, c .before .before .before .before .before .before .before .before .before .pre .0))  -- add-j
+    add-j
     (λ c. search needs)  -- loop-less
-    (λ c. let a = c .before .before .before .before .before .before .before .before .before .args in let l = c .before .before .before .before .before .loop in (
-      omega arith,
-      multiplied-next (a .d) (a .n) (view (a .n) (l .out)) (decodeTableau (a .n) (a .t .now)) (entries (a .n) (a .p .v) ++ entries (a .n) (a .p .w)) (l .j)
-          (omega (arith, decode-length (a .n) (a .t .now)))
-          (omega (arith, length-append (entries (a .n) (a .p .v)) (entries (a .n) (a .p .w)), tab-length (at (a .p .v)) (a .n), tab-length (at (a .p .w)) (a .n)))
-          (c .product .ensures ∙ ap (product (a .d) (view (a .n) (l .out))) (c .before .power .ensures ∙ ap₂ (power (a .d) (a .n)) (c .before .before .before .column .ensures) (c .before .before .exponent .ensures)))
-          (l .inv .1),
-    ))  -- loop-again
-    (λ c. let a = c .before .before .before .before .before .args in let l = c .before .loop in
-    sym (l .inv .1 ∙ multiplied-end (a .d) (a .n) (view (a .n) (l .out)) (decodeTableau (a .n) (a .t .now)) (entries (a .n) (a .p .v) ++ entries (a .n) (a .p .w)) (l .j) (omega (arith, decode-length (a .n) (a .t .now))))))  -- returns
+    loop-again
+    returns)

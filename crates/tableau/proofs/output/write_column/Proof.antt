@@ -5,11 +5,21 @@ use borrow.Author.Needs.{needs}
 use Rattle.tableau.proofs.output.write_column.Statement.{statement}
 use Rattle.tableau.proofs.output.write_column.Tie as tie
 
+mul-write-2 : tie.Need-mul-write-2
+mul-write-2 c =
+    let a = c .before .before .args in
+    omega (arith, column-small (a .n) (a .j) (omega arith) (omega arith))
+
+write-requires : tie.Need-write-requires
+write-requires c κs =
+    let a = c .before .before .args in
+    (omega arith, omega (arith, column-inside (a .n) (a .j) (omega arith)))
+
 pub write-column-spec : {M : Type 1} → statement M
 write-column-spec = tie.close (tie.spec
     (λ c. search needs)  -- mul-write
     (λ c. search needs)  -- add-write
-    (λ c. let a = c .before .before .args in omega (arith, column-small (a .n) (a .j) (omega arith) (omega arith)))  -- mul-write-2
-    (λ c κs. let a = c .before .before .args in (omega arith, omega (arith, column-inside (a .n) (a .j) (omega arith))))  -- write-requires
+    mul-write-2
+    write-requires
     (λ c. search needs)  -- same-length
     (λ c. search needs))  -- returns

@@ -1,7 +1,8 @@
 -- `tableau::output::write_composed` meets its contract. The invariant: column after column is written (`ColumnsWritten`).
-use mathlib.Core.Path.{_≡_, ap, _∙_}
+-- column j of the first, mapped by the second
+use mathlib.Core.Path.{ap, _∙_}
 use mathlib.Core.List.{List}
-use Prim.Native.Nat.{ℕ, _*_, _-_, _≤_, _<_}
+use Prim.Native.Nat.{ℕ, _-_, _≤_, _<_}
 use Rattle.pauli.specs.Pauli.{Pauli}
 use Rattle.tableau.specs.Tableau.{column, image}
 use Rattle.tableau.specs.Bytes.{decodeTableau}
@@ -15,7 +16,6 @@ use borrow.Author.Needs.{needs}
 use Rattle.tableau.proofs.output.write_composed.Statement.{statement}
 use Rattle.tableau.proofs.output.write_composed.Tie as tie
 
--- column j of the first, mapped by the second
 abbrev mapped : List ℕ → List ℕ → ℕ → ℕ → ℕ → Pauli
 mapped first second d n j = image d n (decodeTableau n second) (column n (decodeTableau n first) j)
 
@@ -25,19 +25,37 @@ Inv-loop first second d n out₀ m j₀ out j = (j ≤ m) × ColumnsWritten (map
 abbrev μ-loop : tie.MeasureT-loop
 μ-loop first second d n out₀ m j₀ out j = m - j
 
+image-requires : tie.Need-image-requires Inv-loop μ-loop
+image-requires c κs =
+    let f = c .before .before .before .before .before .before .pre .1 .1 .0 in
+    let r = f .0 .ranges in
+    let s = f .1 .ranges in
+    search needs
+
+loop-again : tie.Need-loop-again Inv-loop μ-loop
+loop-again c =
+    let a = c .before .before .before .before .before .before .before .before .before .before .before .args in
+    let l = c .before .before .before .before .before .before .before .loop in
+    let f = c .before .before .before .before .before .before .before .before .before .before .before .pre .1 .1 .0 in
+    let pos : 0 < a .d = omega (arith, c .before .before .before .before .before .before .before .before .before .before .before .pre .0) in
+    (omega arith, columns-next (mapped (a .first .now) (a .second .now) (a .d) (a .n)) (l .j) (λ i. image-range pos (f .1 .ranges) (column-range i pos (f .0 .ranges))) (c .before .before .before .before .image .ensures ∙ ap (image (a .d) (a .n) (decodeTableau (a .n) (a .second .now))) (c .before .before .before .before .before .column .ensures)) (l .inv .1) (c .before .before .write-column .ensures))
+
+returns : tie.Need-returns Inv-loop μ-loop
+returns c =
+    let a = c .before .before .before .before .before .args in
+    let l = c .before .loop in
+    let f = c .before .before .before .before .before .pre .1 .1 .0 in
+    columns-all (mapped (a .first .now) (a .second .now) (a .d) (a .n)) (omega arith) (compose-table (a .d) (a .n) (decodeTableau (a .n) (a .first .now)) (decodeTableau (a .n) (a .second .now)) (f .0 .columns)) (compose-formed (omega (arith, c .before .before .before .before .before .pre .0)) (f .0) (f .1)) (c .before .before .before .before .before .pre .1 .1 .1) (l .inv .1)
+
 pub write-composed-spec : {M : Type 1} → statement M
 write-composed-spec = tie.close (tie.spec Inv-loop μ-loop
     (λ c. search needs)  -- mul-m
     (λ c. (omega arith, columns-none _ _))  -- loop-holds
     (λ c κs. search needs)  -- column-requires
-    (λ c κs. let h = c .before .before .before .before .before .before .pre in (h .0, (h .1 .0 .1, h .1 .1 .0 .1 .ranges)))  -- image-requires
+    image-requires
     (λ c κs. search needs)  -- write-column-requires
     (λ c. search needs)  -- add-j
     (λ c. search needs)  -- loop-less
-    (λ c. let a = c .before .before .before .before .before .before .before .before .before .before .before .args in let l = c .before .before .before .before .before .before .before .loop in let f = c .before .before .before .before .before .before .before .before .before .before .before .pre .1 .1 .0 in
-      let pos : 0 < a .d = omega (arith, c .before .before .before .before .before .before .before .before .before .before .before .pre .0) in
-      (omega arith, columns-next (mapped (a .first .now) (a .second .now) (a .d) (a .n)) (l .j) (λ i. image-range pos (f .1 .ranges) (column-range i pos (f .0 .ranges))) (c .before .before .before .before .image .ensures ∙ ap (image (a .d) (a .n) (decodeTableau (a .n) (a .second .now))) (c .before .before .before .before .before .column .ensures)) (l .inv .1) (c .before .before .write-column .ensures)))  -- loop-again
+    loop-again
     (λ c. search needs)  -- same-length
-    (λ c. let a = c .before .before .before .before .before .args in let l = c .before .loop in let f = c .before .before .before .before .before .pre .1 .1 .0 in
-      columns-all (mapped (a .first .now) (a .second .now) (a .d) (a .n)) (omega arith) (compose-table (a .d) (a .n) (decodeTableau (a .n) (a .first .now)) (decodeTableau (a .n) (a .second .now)) (f .0 .columns))
-      (compose-formed (omega (arith, c .before .before .before .before .before .pre .0)) (f .0) (f .1)) (c .before .before .before .before .before .pre .1 .1 .1) (l .inv .1)))  -- returns
+    returns)

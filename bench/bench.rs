@@ -1,0 +1,224 @@
+//! Calls per second of the library and of the reference on the same inputs,
+//! the stack that each call of the library uses, and the rows of synthesis, as
+//! one Markdown table. BENCH_MS is the least time of a round.
+
+use library::{library, reference as reference_call, Layout, Lent, Name, Numbers, NAMES};
+use reference::calls;
+use reference::random::Random;
+use std::hint::black_box;
+
+/// Different inputs for each line of the table, used in turn.
+const INPUTS: usize = 16;
+const LIST_ROWS: usize = 64;
+const ROUNDS: u32 = 15;
+
+struct Input {
+    name: Name,
+    numbers: Numbers,
+    first: Vec<u8>,
+    second: Vec<u8>,
+}
+
+fn input(name: Name, d: u16, n: u16, random: &mut Random) -> Input {
+    let (dim, wide) = (d as i64, n as usize);
+    let mut lent = name.inputs().iter().map(|layout| match layout {
+        Layout::Pauli => calls::bytes_of_pauli(&random.pauli(dim, wide)),
+        Layout::Tableau => calls::bytes_of_tableau(&random.dense_tableau(dim, wide)),
+        Layout::List => random.list_bytes(LIST_ROWS, dim, wide),
+    });
+    let first = lent.next().unwrap_or_default();
+    let second = lent.next().unwrap_or_default();
+    let (a, b) = match name {
+        Name::LeastMultiplier => (random.entry(dim) as u16, random.entry(dim) as u16),
+        _ => (random.next() as u16, 0),
+    };
+    Input {
+        name,
+        numbers: Numbers { d, n, a, b },
+        first,
+        second,
+    }
+}
+
+fn call_library(input: &Input, out: &mut [u8]) -> calls::Answer {
+    let (first, second) = (Lent::input(&input.first), Lent::input(&input.second));
+    unsafe { library(input.name, input.numbers, first, second, Lent::output(out)) }
+}
+
+fn call_reference(input: &Input, out: &mut [u8]) -> calls::Answer {
+    reference_call(input.name, input.numbers, &input.first, &input.second, out)
+}
+
+type Call = fn(&Input, &mut [u8]) -> calls::Answer;
+
+/// Processor time of this thread: what else runs on the machine counts less
+/// than it would by the clock.
+fn seconds() -> f64 {
+    const THREAD_CPU_TIME: i32 = 3;
+    let mut time = [0_i64; 2];
+    assert_eq!(unsafe { clock_gettime(THREAD_CPU_TIME, &mut time) }, 0);
+    time[0] as f64 + time[1] as f64 * 1e-9
+}
+
+/// Makes the calls in turn, twice as often each time until they take long
+/// enough. The output is not cleared between calls.
+fn calls_per_second(call: Call, inputs: &[Input], out: &mut [u8], time: f64) -> f64 {
+    let mut turns = 1;
+    loop {
+        let start = seconds();
+        for _ in 0..turns {
+            for input in inputs {
+                let answer = call(black_box(input), black_box(&mut *out));
+                assert_eq!(black_box(answer).number, 0, "a bench call was refused");
+            }
+        }
+        let taken = seconds() - start;
+        if taken >= time {
+            return (turns * inputs.len()) as f64 / taken;
+        }
+        turns *= 2;
+    }
+}
+
+/// Both sides in turn, several times; the best of each.
+fn both(inputs: &[Input], out: &mut [u8], time: f64) -> (f64, f64) {
+    let mut best = (0.0_f64, 0.0_f64);
+    for _ in 0..ROUNDS {
+        best.0 = best
+            .0
+            .max(calls_per_second(call_library, inputs, out, time));
+        best.1 = best
+            .1
+            .max(calls_per_second(call_reference, inputs, out, time));
+    }
+    best
+}
+
+// ---------------------------------------------------------------------- stack
+
+#[repr(C, align(16))]
+struct ThreadAttributes([u8; 128]);
+
+extern "C" {
+    fn clock_gettime(clock: i32, time: *mut [i64; 2]) -> i32;
+    fn pthread_attr_init(attributes: *mut ThreadAttributes) -> i32;
+    fn pthread_attr_setstack(attributes: *mut ThreadAttributes, at: *mut u8, len: usize) -> i32;
+    fn pthread_create(
+        thread: *mut usize,
+        attributes: *const ThreadAttributes,
+        start: extern "C" fn(*mut u8) -> *mut u8,
+        job: *mut u8,
+    ) -> i32;
+    fn pthread_join(thread: usize, result: *mut *mut u8) -> i32;
+}
+
+const STACK: usize = 1 << 20;
+const PAINT: u8 = 0xC3;
+
+struct Job<'a> {
+    input: &'a Input,
+    out: &'a mut [u8],
+    caller: usize,
+}
+
+/// Notes where its own frame is and makes the call.
+extern "C" fn on_painted_stack(job: *mut u8) -> *mut u8 {
+    let here = 0_u8;
+    let job = unsafe { &mut *(job as *mut Job) };
+    job.caller = black_box(&here) as *const u8 as usize;
+    black_box(call_library(job.input, job.out));
+    std::ptr::null_mut()
+}
+
+/// Makes the call on a stack that was painted all over, and looks for the
+/// lowest byte that is no longer paint. The frame of the caller counts too,
+/// some hundred bytes at most.
+fn stack_used(input: &Input, out: &mut [u8]) -> usize {
+    let mut memory = vec![PAINT; STACK + 4096];
+    let offset = memory.as_ptr().align_offset(4096);
+    let stack = &mut memory[offset..offset + STACK];
+    let mut job = Job {
+        input,
+        out,
+        caller: 0,
+    };
+    let mut attributes = ThreadAttributes([0; 128]);
+    let mut thread = 0;
+    unsafe {
+        assert_eq!(pthread_attr_init(&mut attributes), 0);
+        assert_eq!(
+            pthread_attr_setstack(&mut attributes, stack.as_mut_ptr(), STACK),
+            0
+        );
+        let lent = &mut job as *mut Job as *mut u8;
+        assert_eq!(
+            pthread_create(&mut thread, &attributes, on_painted_stack, lent),
+            0
+        );
+        assert_eq!(pthread_join(thread, std::ptr::null_mut()), 0);
+    }
+    let untouched = black_box(&*stack)
+        .iter()
+        .take_while(|&&byte| byte == PAINT)
+        .count();
+    assert!(untouched > 0, "the call used the whole stack");
+    job.caller - (stack.as_ptr() as usize + untouched)
+}
+
+// ----------------------------------------------------------------------- main
+
+fn main() {
+    let milliseconds = std::env::var("BENCH_MS")
+        .ok()
+        .map_or(2, |text| text.parse().expect("BENCH_MS is no number"));
+    println!(
+        "Lists have {LIST_ROWS} rows, tableaus few zeros. Outputs are not cleared between calls. \
+         Both sides are built for release; best of {ROUNDS} rounds of at least {milliseconds} ms \
+         of processor time.\n"
+    );
+    println!(
+        "| call | n | d | library, calls/s | reference, calls/s | ratio | stack, bytes \
+         | rows, mean | rows, worst |"
+    );
+    println!("|---|---|---|---|---|---|---|---|---|");
+    for name in NAMES {
+        for n in [1, 4, 16] {
+            if name == Name::LeastMultiplier && n > 1 {
+                continue; // it takes no n
+            }
+            for d in [2, 6, 1024] {
+                let mut random = Random::new(1, (d as u64) << 16 | n as u64);
+                let inputs: Vec<Input> = (0..INPUTS)
+                    .map(|_| input(name, d, n, &mut random))
+                    .collect();
+                let mut out = vec![0; name.room(n as usize)];
+                let (own, other) = both(&inputs, &mut out, milliseconds as f64 / 1000.0);
+                let stack = inputs
+                    .iter()
+                    .map(|input| stack_used(input, &mut out))
+                    .max()
+                    .unwrap();
+                let rows = if name == Name::Synthesis {
+                    let counts: Vec<usize> = inputs
+                        .iter()
+                        .map(|input| call_library(input, &mut out).value as usize)
+                        .collect();
+                    let mean = counts.iter().sum::<usize>() as f64 / counts.len() as f64;
+                    format!("{mean:.1} | {}", counts.iter().max().unwrap())
+                } else {
+                    "- | -".into()
+                };
+                let width = if name == Name::LeastMultiplier {
+                    "-".into()
+                } else {
+                    n.to_string()
+                };
+                println!(
+                    "| {} | {width} | {d} | {own:.0} | {other:.0} | {:.2} | {stack} | {rows} |",
+                    name.text(),
+                    own / other
+                );
+            }
+        }
+    }
+}

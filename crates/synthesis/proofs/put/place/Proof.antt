@@ -1,0 +1,19 @@
+-- `synthesis::put::place` meets its contract.
+use mathlib.Core.Path.{refl}
+use Rattle.synthesis.proofs.Progress.{does-put}
+use borrow.Author.Needs.{needs}
+use Rattle.synthesis.proofs.put.place.Statement.{statement}
+use Rattle.synthesis.proofs.put.place.Tie as tie
+
+returns : tie.Need-returns
+returns c =
+    let s = c .before .before .before .before .before .before .before in
+    does-put _ (c .before .before .before .before .before .put-columns .ensures) (s .pre .1 .0 .1) (c .before .before .write-row .ensures) refl
+
+pub place-spec : {M : Type 1} → statement M
+place-spec = tie.close (tie.spec
+    (λ c κs. search needs)  -- put-columns-requires
+    (λ c κs. search needs)  -- write-row-requires
+    (λ c. search needs)  -- add-count
+    (λ c. search needs)  -- same-length
+    returns)

@@ -1,0 +1,101 @@
+"""The same as host.c, from Python.
+
+    python3 examples/clifford.py build/libclifford.so
+
+A shared object is made from the archive with
+    cc -shared -Wl,--whole-archive build/libclifford.a -Wl,--no-whole-archive \\
+       -o build/libclifford.so
+"""
+
+import ctypes
+import struct
+import sys
+
+WORDS = ["", "dimension", "width", "length", "room", "range", "row", "pairing", "parity"]
+LETTERS = "?FSAMXZ"
+
+
+class Answer(ctypes.Structure):
+    _fields_ = [("number", ctypes.c_uint16), ("value", ctypes.c_uint16)]
+
+
+def pack(numbers):
+    """Each number is two bytes, low byte first."""
+    return struct.pack(f"<{len(numbers)}H", *numbers)
+
+
+def unpack(data):
+    return list(struct.unpack(f"<{len(data) // 2}H", data))
+
+
+class Clifford:
+    """The calls used here, for one dimension d and one number of qudits n."""
+
+    def __init__(self, path, d, n):
+        self.library = ctypes.CDLL(path)
+        self.d, self.n = d, n
+        self.pauli_bytes = 2 * (1 + 2 * n)
+        self.tableau_bytes = 2 * n * self.pauli_bytes
+
+    def call(self, name, result, inputs, room):
+        """Lends the inputs and an output of `room` bytes; gives (value, output)."""
+        function = getattr(self.library, "clifford_" + name)
+        function.restype = result
+        function.argtypes = [ctypes.c_uint16] * 2 + [ctypes.c_char_p, ctypes.c_size_t] * (
+            len(inputs) + 1
+        )
+        out = ctypes.create_string_buffer(room)
+        lent = [part for data in inputs for part in (data, len(data))]
+        answer = function(self.d, self.n, *lent, out, room)
+        number, value = (answer, 0) if result is ctypes.c_uint16 else (answer.number, answer.value)
+        if number != 0:
+            raise ValueError(f"{name} refuses: {number}, {WORDS[number]}")
+        return value, out.raw
+
+    def tableau(self, rows):
+        data = b"".join(pack(row) for row in rows)
+        out = self.call("tableau", ctypes.c_uint16, [data], self.tableau_bytes)[1]
+        return [unpack(out[i : i + self.pauli_bytes]) for i in range(0, len(out), self.pauli_bytes)]
+
+    def synthesis(self, columns):
+        data = b"".join(pack(column) for column in columns)
+        room = 40 * self.n**2 + 48 * self.n
+        count, out = self.call("synthesis", Answer, [data], room)
+        return [unpack(out[8 * i : 8 * i + 8]) for i in range(count)]
+
+    def run(self, rows, pauli):
+        data = b"".join(pack(row) for row in rows)
+        return unpack(self.call("run", ctypes.c_uint16, [data, pack(pauli)], self.pauli_bytes)[1])
+
+
+def print_pauli(p, n):
+    print(f"  {p[0]}; {','.join(map(str, p[1 : n + 1]))}; {','.join(map(str, p[n + 1 :]))}")
+
+
+def print_rows(rows):
+    for kind, first, second, power in rows:
+        print(f"  {LETTERS[kind]},{first},{second},{power}")
+
+
+def main():
+    n = 2
+    clifford = Clifford(sys.argv[1], 4, n)
+    rows = [[1, 1, 0, 1], [3, 1, 2, 1], [6, 2, 0, 3]]
+    print("list:")
+    print_rows(rows)
+    columns = clifford.tableau(rows)
+    print("its tableau, a column a line:")
+    for column in columns:
+        print_pauli(column, n)
+    found = clifford.synthesis(columns)
+    print(f"a list with this tableau, {len(found)} rows:")
+    print_rows(found)
+    pauli = [1, 1, 0, 0, 2]
+    print("a Pauli:")
+    print_pauli(pauli, n)
+    print("what the list makes of it:")
+    print_pauli(clifford.run(found, pauli), n)
+
+
+if __name__ == "__main__":
+    main()

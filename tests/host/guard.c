@@ -1,0 +1,209 @@
+/*
+ * Calls each function of the library once as it should be called and once as
+ * it should not, with guard bytes around each output. Inputs are blocks of
+ * their exact length, so that valgrind sees a byte read beyond one.
+ */
+
+#include "clifford.h"
+
+#include <stdio.h>
+#include <stdlib.h>
+#include <string.h>
+
+enum { GUARD = 32, FILL = 0xA5 };
+
+static int faults;
+
+static void expect(int holds, const char *what)
+{
+    if (!holds) {
+        printf("guard: %s\n", what);
+        faults++;
+    }
+}
+
+/* A block with these numbers, low byte first. */
+static uint8_t *lend(const uint16_t *numbers, size_t count)
+{
+    uint8_t *bytes = malloc(2 * count);
+    if (bytes == NULL)
+        exit(2);
+    for (size_t i = 0; i < count; i++) {
+        bytes[2 * i] = (uint8_t)(numbers[i] & 0xFF);
+        bytes[2 * i + 1] = (uint8_t)(numbers[i] >> 8);
+    }
+    return bytes;
+}
+
+/* An output of some length between guard bytes, all filled alike. */
+static uint8_t *block;
+
+static uint8_t *output(size_t len)
+{
+    free(block);
+    block = malloc(GUARD + len + GUARD);
+    if (block == NULL)
+        exit(2);
+    memset(block, FILL, GUARD + len + GUARD);
+    return block + GUARD;
+}
+
+/* The output holds these bytes, and everything else in the block is as it was. */
+static void expect_output(const uint8_t *wanted, size_t wanted_len, size_t len, const char *what)
+{
+    int same = wanted_len == 0 || memcmp(block + GUARD, wanted, wanted_len) == 0;
+    for (size_t i = 0; i < GUARD + len + GUARD; i++)
+        if (i < GUARD || i >= GUARD + wanted_len)
+            same = same && block[i] == FILL;
+    expect(same, what);
+}
+
+static int answers(struct clifford_answer answer, uint16_t number, uint16_t value)
+{
+    return answer.number == number && answer.value == value;
+}
+
+int main(void)
+{
+    /* d = 4, n = 2: the document's list and its tableau. */
+    const uint16_t list_numbers[] = {1, 1, 0, 1, 3, 1, 2, 1, 6, 2, 0, 3};
+    const uint16_t tableau_numbers[] = {0, 0, 0, 1, 0, 6, 0, 1, 0, 0,
+                                        2, 3, 3, 0, 0, 0, 0, 0, 3, 1};
+    const uint16_t unit_numbers[] = {0, 1, 0, 0, 0, 0, 0, 1, 0, 0,
+                                     0, 0, 0, 1, 0, 0, 0, 0, 0, 1};
+    const uint16_t pauli_numbers[] = {7, 1, 2, 3, 0};
+    const uint16_t other_numbers[] = {1, 3, 3, 0, 2};
+    /* (7; 1,2; 3,0) times (1; 3,3; 0,2), then the fifth power of the first. */
+    const uint16_t product_numbers[] = {2, 0, 1, 3, 2};
+    const uint16_t power_numbers[] = {7, 1, 2, 3, 0};
+    /* F: v1, w1 = 1, 3 become 1, 1 with phase 7 - 6 = 1. A: v2 = 3. Z: phase
+       1 + 2*3*3 = 19, so 3. */
+    const uint16_t image_numbers[] = {3, 1, 3, 1, 0};
+
+    const size_t pauli_len = CLIFFORD_PAULI_BYTES(2);
+    const size_t tableau_len = CLIFFORD_TABLEAU_BYTES(2);
+    const size_t list_len = 3 * CLIFFORD_ROW_BYTES;
+    const size_t room = CLIFFORD_SYNTHESIS_BYTES(2);
+
+    uint8_t *list = lend(list_numbers, 12);
+    uint8_t *tableau = lend(tableau_numbers, 20);
+    uint8_t *units = lend(unit_numbers, 20);
+    uint8_t *p = lend(pauli_numbers, 5);
+    uint8_t *q = lend(other_numbers, 5);
+    uint8_t *product = lend(product_numbers, 5);
+    uint8_t *power = lend(power_numbers, 5);
+    uint8_t *image = lend(image_numbers, 5);
+    uint8_t undone[CLIFFORD_TABLEAU_BYTES(2)];
+    uint8_t *out;
+
+    expect(answers(clifford_least_multiplier(6, 2, 1), 0, 3), "least multiplier");
+    expect(answers(clifford_least_multiplier(6, 6, 1), CLIFFORD_RANGE, 0),
+           "least multiplier, a refusal");
+
+    out = output(pauli_len + 3);
+    expect(clifford_product(4, 2, p, pauli_len, q, pauli_len, out, pauli_len + 3) == 0, "product");
+    expect_output(product, pauli_len, pauli_len + 3, "product, output");
+    out = output(pauli_len - 1);
+    expect(clifford_product(4, 2, p, pauli_len, q, pauli_len, out, pauli_len - 1) == CLIFFORD_ROOM,
+           "product, a refusal");
+    expect_output(NULL, 0, pauli_len - 1, "product, output on refusal");
+
+    out = output(pauli_len);
+    expect(clifford_power(4, 2, p, pauli_len, 5, out, pauli_len) == 0, "power");
+    expect_output(power, pauli_len, pauli_len, "power, output");
+    out = output(pauli_len);
+    expect(clifford_power(3, 2, p, pauli_len, 5, out, pauli_len) == CLIFFORD_RANGE,
+           "power, a refusal");
+    expect_output(NULL, 0, pauli_len, "power, output on refusal");
+
+    expect(answers(clifford_commutation(4, 2, p, pauli_len, q, pauli_len), 0, 1), "commutation");
+    expect(answers(clifford_commutation(4, 17, p, pauli_len, q, pauli_len), CLIFFORD_WIDTH, 0),
+           "commutation, a refusal");
+
+    out = output(pauli_len);
+    expect(clifford_run(4, 2, list, list_len, p, pauli_len, out, pauli_len) == 0, "run");
+    expect_output(image, pauli_len, pauli_len, "run, output");
+    out = output(pauli_len);
+    expect(clifford_run(4, 2, NULL, 0, p, pauli_len, out, pauli_len) == 0, "run, empty list");
+    expect_output(p, pauli_len, pauli_len, "run, output for the empty list");
+    out = output(pauli_len);
+    expect(clifford_run(4, 2, list, list_len - 1, p, pauli_len, out, pauli_len) == CLIFFORD_LENGTH,
+           "run, a refusal");
+    expect_output(NULL, 0, pauli_len, "run, output on refusal");
+
+    out = output(tableau_len);
+    expect(clifford_tableau(4, 2, list, list_len, out, tableau_len) == 0, "tableau");
+    expect_output(tableau, tableau_len, tableau_len, "tableau, output");
+    out = output(tableau_len);
+    expect(clifford_tableau(3, 2, list, list_len, out, tableau_len) == CLIFFORD_ROW,
+           "tableau, a refusal");
+    expect_output(NULL, 0, tableau_len, "tableau, output on refusal");
+
+    out = output(tableau_len);
+    expect(clifford_inverse(4, 2, tableau, tableau_len, out, tableau_len) == 0, "inverse");
+    memcpy(undone, out, tableau_len);
+    expect_output(undone, tableau_len, tableau_len, "inverse, output");
+    out = output(tableau_len);
+    expect(clifford_inverse(4, 2, list, list_len, out, tableau_len) == CLIFFORD_LENGTH,
+           "inverse, a refusal");
+    expect_output(NULL, 0, tableau_len, "inverse, output on refusal");
+
+    out = output(tableau_len);
+    expect(clifford_compose(4, 2, tableau, tableau_len, undone, tableau_len, out, tableau_len) == 0,
+           "compose");
+    expect_output(units, tableau_len, tableau_len, "compose, output");
+    out = output(tableau_len);
+    expect(clifford_compose(1025, 2, tableau, tableau_len, undone, tableau_len, out, tableau_len)
+               == CLIFFORD_DIMENSION,
+           "compose, a refusal");
+    expect_output(NULL, 0, tableau_len, "compose, output on refusal");
+
+    out = output(pauli_len);
+    expect(clifford_image(4, 2, tableau, tableau_len, p, pauli_len, out, pauli_len) == 0, "image");
+    expect_output(image, pauli_len, pauli_len, "image, output");
+    out = output(pauli_len);
+    units[0] = 1;
+    expect(clifford_image(4, 2, units, tableau_len, p, pauli_len, out, pauli_len)
+               == CLIFFORD_PARITY,
+           "image, a refusal");
+    expect_output(NULL, 0, pauli_len, "image, output on refusal");
+
+    out = output(room + 8);
+    struct clifford_answer found = clifford_synthesis(4, 2, tableau, tableau_len, out, room + 8);
+    size_t found_len = CLIFFORD_ROW_BYTES * found.value;
+    expect(found.number == 0 && found_len <= room, "synthesis");
+    if (found_len <= room) {
+        uint8_t *found_list = malloc(found_len + 1);
+        if (found_list == NULL)
+            return 2;
+        memcpy(found_list, out, found_len);
+        expect_output(found_list, found_len, room + 8, "synthesis, output");
+        out = output(tableau_len);
+        expect(clifford_tableau(4, 2, found_list, found_len, out, tableau_len) == 0,
+               "synthesis, a legal list");
+        expect_output(tableau, tableau_len, tableau_len, "synthesis, the list's tableau");
+        free(found_list);
+    }
+    out = output(room);
+    tableau[2] = 1;
+    expect(answers(clifford_synthesis(4, 2, tableau, tableau_len, out, room), CLIFFORD_PAIRING, 0),
+           "synthesis, a refusal");
+    expect_output(NULL, 0, room, "synthesis, output on refusal");
+
+    expect(answers(clifford_ticks(4, 2, list, list_len), 0, 3), "ticks");
+    expect(answers(clifford_ticks(4, 2, NULL, 0), 0, 0), "ticks of the empty list");
+    expect(answers(clifford_ticks(4, 1, list, list_len), CLIFFORD_ROW, 0), "ticks, a refusal");
+
+    free(list);
+    free(tableau);
+    free(units);
+    free(p);
+    free(q);
+    free(product);
+    free(power);
+    free(image);
+    free(block);
+    if (faults == 0)
+        printf("guard: all eleven calls, no fault\n");
+    return faults != 0;
+}

@@ -1,0 +1,389 @@
+//! Clifford operations on qudits, written from the rules (document 01) and
+//! from nothing else. It is the other side of every comparison, so it stays
+//! close to the words of the rules and takes no short cut for speed.
+//!
+//! This file has the mathematics: numbers are `i64` and always reduced.
+//! `calls` has the eleven public calls on bytes, `text` the text program,
+//! `random` the seeded inputs.
+
+pub mod calls;
+pub mod random;
+pub mod text;
+
+#[cfg(test)]
+mod tests;
+
+// ---------------------------------------------------------------- arithmetic
+
+pub fn gcd(a: i64, b: i64) -> i64 {
+    if b == 0 {
+        a
+    } else {
+        gcd(b, a % b)
+    }
+}
+
+pub fn is_unit(q: i64, d: i64) -> bool {
+    gcd(q, d) == 1
+}
+
+/// The inverse of a unit q modulo d, by Euclid's algorithm: `x` and `y` keep
+/// x·q = a and y·q = b modulo d.
+pub fn inverse_of_unit(q: i64, d: i64) -> i64 {
+    let (mut a, mut b) = (d, q);
+    let (mut x, mut y) = (0, 1);
+    while b != 0 {
+        let times = a / b;
+        (a, b) = (b, a - times * b);
+        (x, y) = (y, x - times * y);
+    }
+    assert_eq!(a, 1, "{q} is not a unit modulo {d}");
+    x.rem_euclid(d)
+}
+
+/// The first m, counted from 0, with gcd(a + m·b, d) = gcd(gcd(a, b), d).
+pub fn least_multiplier(a: i64, b: i64, d: i64) -> i64 {
+    let wanted = gcd(gcd(a, b), d);
+    let mut m = 0;
+    while gcd(a + m * b, d) != wanted {
+        m += 1;
+    }
+    m
+}
+
+fn dot(a: &[i64], b: &[i64]) -> i64 {
+    a.iter().zip(b).map(|(x, y)| x * y).sum()
+}
+
+// -------------------------------------------------------------------- Paulis
+
+/// A phase modulo 2d, and for each qudit a residue v and a residue w modulo d.
+#[derive(Clone, Debug, PartialEq, Eq)]
+pub struct Pauli {
+    pub phase: i64,
+    pub v: Vec<i64>,
+    pub w: Vec<i64>,
+}
+
+impl Pauli {
+    pub fn zero(n: usize) -> Pauli {
+        Pauli {
+            phase: 0,
+            v: vec![0; n],
+            w: vec![0; n],
+        }
+    }
+
+    /// Unit Pauli j, for j from 1 to 2n.
+    pub fn unit(n: usize, j: usize) -> Pauli {
+        let mut p = Pauli::zero(n);
+        if j <= n {
+            p.v[j - 1] = 1;
+        } else {
+            p.w[j - n - 1] = 1;
+        }
+        p
+    }
+
+    pub fn in_range(&self, d: i64) -> bool {
+        self.phase < 2 * d && self.entries().all(|x| x < d)
+    }
+
+    /// v1 to vn, then w1 to wn.
+    pub fn entries(&self) -> impl Iterator<Item = i64> + '_ {
+        self.v.iter().chain(&self.w).copied()
+    }
+
+    pub fn product(&self, other: &Pauli, d: i64) -> Pauli {
+        let add = |a: &[i64], b: &[i64]| a.iter().zip(b).map(|(x, y)| (x + y) % d).collect();
+        Pauli {
+            phase: (self.phase + other.phase + 2 * dot(&self.w, &other.v)) % (2 * d),
+            v: add(&self.v, &other.v),
+            w: add(&self.w, &other.w),
+        }
+    }
+
+    /// The product of k copies. Each pair of copies adds 2·(w·v) to the phase,
+    /// and there are k(k − 1)/2 pairs. The unit tests hold this against
+    /// multiplying the copies one by one.
+    pub fn power(&self, k: i64, d: i64) -> Pauli {
+        let pairs_twice = k * (k - 1);
+        Pauli {
+            phase: (k * self.phase + pairs_twice * dot(&self.w, &self.v)) % (2 * d),
+            v: self.v.iter().map(|x| k * x % d).collect(),
+            w: self.w.iter().map(|x| k * x % d).collect(),
+        }
+    }
+
+    pub fn commutation(&self, other: &Pauli, d: i64) -> i64 {
+        (dot(&self.w, &other.v) - dot(&self.v, &other.w)).rem_euclid(d)
+    }
+}
+
+// ----------------------------------------------------------------- gate rows
+
+pub const F: u16 = 1;
+pub const S: u16 = 2;
+pub const A: u16 = 3;
+pub const M: u16 = 4;
+pub const X: u16 = 5;
+pub const Z: u16 = 6;
+
+#[derive(Clone, Copy, Debug, PartialEq, Eq)]
+pub struct Row {
+    pub kind: u16,
+    pub first: u16,
+    pub second: u16,
+    pub power: u16,
+}
+
+impl Row {
+    pub fn is_legal(&self, d: i64, n: usize) -> bool {
+        let power = self.power as i64;
+        let power_is_legal = match self.kind {
+            F => (1..=3).contains(&power),
+            S => (1..=2 * d - 1).contains(&power),
+            A | X | Z => (1..=d - 1).contains(&power),
+            M => (1..=d - 1).contains(&power) && is_unit(power, d),
+            _ => return false,
+        };
+        let is_qudit = |q: u16| 1 <= q && q as usize <= n;
+        let second_is_legal = match self.kind {
+            A => is_qudit(self.second) && self.second != self.first,
+            _ => self.second == 0,
+        };
+        power_is_legal && is_qudit(self.first) && second_is_legal
+    }
+
+    /// What a legal row makes of a Pauli.
+    pub fn apply(&self, p: &mut Pauli, d: i64) {
+        let k = self.power as i64;
+        let i = self.first as usize - 1;
+        match self.kind {
+            F => {
+                for _ in 0..k {
+                    p.phase -= 2 * p.v[i] * p.w[i];
+                    (p.v[i], p.w[i]) = ((-p.w[i]).rem_euclid(d), p.v[i]);
+                }
+            }
+            S => {
+                p.phase += k * p.v[i] * (p.v[i] + d);
+                p.w[i] += k * p.v[i];
+            }
+            A => {
+                let j = self.second as usize - 1;
+                p.v[j] = (p.v[j] + k * p.v[i]).rem_euclid(d);
+                p.w[i] -= k * p.w[j];
+            }
+            M => {
+                p.v[i] *= k;
+                p.w[i] *= inverse_of_unit(k, d);
+            }
+            X => p.phase -= 2 * k * p.w[i],
+            Z => p.phase += 2 * k * p.v[i],
+            _ => unreachable!("the row is legal"),
+        }
+        p.phase = p.phase.rem_euclid(2 * d);
+        p.v[i] = p.v[i].rem_euclid(d);
+        p.w[i] = p.w[i].rem_euclid(d);
+    }
+
+    /// The legal row that undoes this one.
+    fn undo(&self, d: i64) -> Row {
+        let k = self.power as i64;
+        let power = match self.kind {
+            F => 4 - k,
+            S => 2 * d - k,
+            M => inverse_of_unit(k, d),
+            _ => d - k,
+        };
+        Row {
+            power: power as u16,
+            ..*self
+        }
+    }
+}
+
+/// What a list makes of a Pauli: the first row acts first.
+pub fn run(rows: &[Row], p: &Pauli, d: i64) -> Pauli {
+    let mut p = p.clone();
+    for row in rows {
+        row.apply(&mut p, d);
+    }
+    p
+}
+
+// ------------------------------------------------------------------ tableaus
+
+/// 2n columns, each a Pauli.
+pub type Tableau = Vec<Pauli>;
+
+pub fn unit_tableau(n: usize) -> Tableau {
+    (1..=2 * n).map(|j| Pauli::unit(n, j)).collect()
+}
+
+pub fn tableau_of_list(rows: &[Row], d: i64, n: usize) -> Tableau {
+    unit_tableau(n)
+        .iter()
+        .map(|unit| run(rows, unit, d))
+        .collect()
+}
+
+/// The phase alone, times column 1 to the power v1, and so on to column 2n to
+/// the power wn.
+pub fn image(tableau: &[Pauli], p: &Pauli, d: i64) -> Pauli {
+    let mut result = Pauli {
+        phase: p.phase,
+        ..Pauli::zero(p.v.len())
+    };
+    for (column, power) in tableau.iter().zip(p.entries()) {
+        result = result.product(&column.power(power, d), d);
+    }
+    result
+}
+
+/// First tableau, then second.
+pub fn compose(first: &[Pauli], second: &[Pauli], d: i64) -> Tableau {
+    first
+        .iter()
+        .map(|column| image(second, column, d))
+        .collect()
+}
+
+pub fn pairing_holds(tableau: &[Pauli], d: i64) -> bool {
+    let n = tableau.len() / 2;
+    (0..2 * n).all(|j| {
+        (j + 1..2 * n).all(|k| {
+            let wanted = if k == j + n { d - 1 } else { 0 };
+            tableau[j].commutation(&tableau[k], d) == wanted
+        })
+    })
+}
+
+pub fn parity_holds(tableau: &[Pauli], d: i64) -> bool {
+    tableau
+        .iter()
+        .all(|column| (column.phase + (d - 1) * dot(&column.w, &column.v)) % 2 == 0)
+}
+
+/// The tableau that undoes a sound one.
+///
+/// Column k is the Pauli whose image is unit Pauli k. Write the entries of
+/// that unit as a combination of the columns. The commutation numbers with
+/// the columns read off its coefficients, since by pairing each column fails
+/// to commute with its partner alone: column j with column n + j has −1. Those
+/// coefficients are the entries sought, and the phase is what cancels the
+/// phase of their image.
+pub fn inverse(tableau: &[Pauli], d: i64) -> Tableau {
+    let n = tableau.len() / 2;
+    unit_tableau(n)
+        .iter()
+        .map(|unit| {
+            let with = |column: usize| unit.commutation(&tableau[column], d);
+            let mut p = Pauli::zero(n);
+            for j in 0..n {
+                p.v[j] = (-with(n + j)).rem_euclid(d);
+                p.w[j] = with(j);
+            }
+            p.phase = (-image(tableau, &p, d).phase).rem_euclid(2 * d);
+            p
+        })
+        .collect()
+}
+
+// ----------------------------------------------------------------- synthesis
+
+/// Brings the columns to the unit Paulis row by row and keeps what undoes it.
+struct Reduction {
+    d: i64,
+    columns: Tableau,
+    undone: Vec<Row>,
+}
+
+impl Reduction {
+    /// Applies a row to all columns. The power may be any number; one that
+    /// does nothing makes no row.
+    fn row(&mut self, kind: u16, first: usize, second: usize, power: i64) {
+        let order = match kind {
+            F => 4,
+            S => 2 * self.d,
+            _ => self.d,
+        };
+        let power = power.rem_euclid(order);
+        if power == 0 || (kind == M && power == 1) {
+            return;
+        }
+        let row = Row {
+            kind,
+            first: first as u16,
+            second: second as u16,
+            power: power as u16,
+        };
+        for column in &mut self.columns {
+            row.apply(column, self.d);
+        }
+        self.undone.push(row.undo(self.d));
+    }
+}
+
+/// A list whose tableau is the given sound one.
+///
+/// Stage t makes columns a = t and b = n + t the unit Paulis t and n + t up to
+/// phase, by rows on qudit t and later ones. The columns made before are zero
+/// there, so they stay. No entry need be a unit at the start: the least
+/// multiplier gathers the common divisor of a's entries, and pairing makes
+/// that a unit. At most 6m + 1 rows are made with m qudits left, and 2n for
+/// the phases, in all 3n² + 6n.
+pub fn synthesis(tableau: &[Pauli], d: i64) -> Vec<Row> {
+    let n = tableau.len() / 2;
+    let mut r = Reduction {
+        d,
+        columns: tableau.to_vec(),
+        undone: Vec::new(),
+    };
+    for t in 1..=n {
+        let (a, b) = (t - 1, n + t - 1);
+        let later = t + 1..=n;
+
+        // a: gather its common divisor at w of qudit t, which is then a unit.
+        for j in t..=n {
+            let m = least_multiplier(r.columns[a].w[j - 1], r.columns[a].v[j - 1], d);
+            r.row(S, j, 0, m);
+        }
+        for j in later.clone() {
+            let m = least_multiplier(r.columns[a].w[t - 1], r.columns[a].w[j - 1], d);
+            r.row(A, t, j, -m);
+        }
+        r.row(M, t, 0, -r.columns[a].w[t - 1]);
+        // That made w of qudit t −1. Clear the other w with it.
+        for j in later.clone() {
+            r.row(A, j, t, -r.columns[a].w[j - 1]);
+        }
+        // Exchange, so that v of qudit t is 1, and clear the rest with it.
+        r.row(F, t, 0, 1);
+        for j in later.clone() {
+            r.row(A, t, j, -r.columns[a].v[j - 1]);
+        }
+        r.row(S, t, 0, -r.columns[a].w[t - 1]);
+
+        // b: pairing with a makes its w of qudit t 1. Clear the rest with it;
+        // these rows keep a.
+        for j in later.clone() {
+            r.row(A, j, t, r.columns[b].w[j - 1]);
+        }
+        r.row(F, t, 0, 1);
+        for j in later {
+            r.row(A, t, j, r.columns[b].v[j - 1]);
+        }
+        r.row(S, t, 0, r.columns[b].w[t - 1]);
+        r.row(F, t, 0, 3);
+    }
+    // Every column is now a unit Pauli with an even phase.
+    for j in 1..=n {
+        r.row(Z, j, 0, -r.columns[j - 1].phase / 2);
+        r.row(X, j, 0, r.columns[n + j - 1].phase / 2);
+    }
+    assert_eq!(r.columns, unit_tableau(n), "the tableau is sound");
+    r.undone.reverse();
+    r.undone
+}

@@ -1,0 +1,134 @@
+//! Seeded inputs. The same seed gives the same inputs on every machine.
+
+use crate::{calls, is_unit, Pauli, Row, Tableau, A, F, M, S};
+
+/// Some dimensions, prime and composite, that the tests go back to: small
+/// ones, powers of primes, products of many primes, and those at the limit.
+pub const DIMENSIONS: [u16; 30] = [
+    2, 3, 4, 5, 6, 7, 8, 9, 10, 12, 15, 16, 25, 27, 30, 36, 101, 128, 210, 243, 256, 257, 360, 509,
+    512, 720, 961, 1021, 1023, 1024,
+];
+
+pub struct Random(u64);
+
+impl Random {
+    /// Each pair of a seed and an index has a sequence of its own.
+    pub fn new(seed: u64, index: u64) -> Random {
+        let mut random = Random(seed);
+        random.0 = random.next() ^ index;
+        random.0 = random.next();
+        random
+    }
+
+    /// SplitMix64.
+    pub fn next(&mut self) -> u64 {
+        self.0 = self.0.wrapping_add(0x9e37_79b9_7f4a_7c15);
+        let mut z = self.0;
+        z = (z ^ (z >> 30)).wrapping_mul(0xbf58_476d_1ce4_e5b9);
+        z = (z ^ (z >> 27)).wrapping_mul(0x94d0_49bb_1331_11eb);
+        z ^ (z >> 31)
+    }
+
+    /// A number from 0 to limit − 1.
+    pub fn below(&mut self, limit: usize) -> usize {
+        (self.next() % limit as u64) as usize
+    }
+
+    /// A number from low to high, both included.
+    pub fn between(&mut self, low: usize, high: usize) -> usize {
+        low + self.below(high - low + 1)
+    }
+
+    /// True once in so many times.
+    pub fn one_in(&mut self, times: usize) -> bool {
+        self.below(times) == 0
+    }
+
+    pub fn pick<T: Copy>(&mut self, from: &[T]) -> T {
+        from[self.below(from.len())]
+    }
+
+    pub fn bytes(&mut self, length: usize) -> Vec<u8> {
+        (0..length).map(|_| self.next() as u8).collect()
+    }
+
+    /// A number from 0 to limit − 1, with 0, 1, the last one, and those that
+    /// share a divisor with the limit (a product of three has one often) more
+    /// frequent than by chance: a reduction has to meet entries without units.
+    pub fn entry(&mut self, limit: i64) -> i64 {
+        match self.below(8) {
+            0 => 0,
+            1 => 1,
+            2 => limit - 1,
+            3 | 4 => {
+                (0..3)
+                    .map(|_| self.below(limit as usize) as i64)
+                    .product::<i64>()
+                    % limit
+            }
+            _ => self.below(limit as usize) as i64,
+        }
+    }
+
+    pub fn pauli(&mut self, d: i64, n: usize) -> Pauli {
+        let mut p = Pauli::zero(n);
+        p.phase = self.entry(2 * d);
+        p.v.iter_mut()
+            .chain(&mut p.w)
+            .for_each(|x| *x = self.entry(d));
+        p
+    }
+
+    pub fn row(&mut self, d: i64, n: usize) -> Row {
+        let kind = loop {
+            let kind = self.between(1, 6) as u16;
+            if kind != A || n > 1 {
+                break kind;
+            }
+        };
+        let first = self.between(1, n);
+        let second = match kind {
+            A => (first - 1 + self.between(1, n - 1)) % n + 1,
+            _ => 0,
+        };
+        let power = loop {
+            let power = match kind {
+                F => self.between(1, 3) as i64,
+                S => self.entry(2 * d),
+                _ => self.entry(d),
+            };
+            if power != 0 && (kind != M || is_unit(power, d)) {
+                break power;
+            }
+        };
+        Row {
+            kind,
+            first: first as u16,
+            second: second as u16,
+            power: power as u16,
+        }
+    }
+
+    pub fn rows(&mut self, count: usize, d: i64, n: usize) -> Vec<Row> {
+        (0..count).map(|_| self.row(d, n)).collect()
+    }
+
+    /// The tableau of a random list of so many rows, with an even number added
+    /// to each phase, which keeps it sound.
+    pub fn sound_tableau(&mut self, count: usize, d: i64, n: usize) -> Tableau {
+        let mut tableau = crate::tableau_of_list(&self.rows(count, d, n), d, n);
+        for column in &mut tableau {
+            column.phase = (column.phase + 2 * self.entry(d)) % (2 * d);
+        }
+        tableau
+    }
+
+    /// The same with enough rows that most entries are not 0.
+    pub fn dense_tableau(&mut self, d: i64, n: usize) -> Tableau {
+        self.sound_tableau(20 * n + 4 * n * n, d, n)
+    }
+
+    pub fn list_bytes(&mut self, count: usize, d: i64, n: usize) -> Vec<u8> {
+        calls::bytes_of_rows(&self.rows(count, d, n))
+    }
+}
