@@ -2,9 +2,9 @@
  * clifford: Clifford operations on up to 16 qudits, as lists of gates and as
  * tableaus, and each turned into the other.
  *
- * No call allocates, keeps state, or calls anything outside the library. A
- * call may run on any number of threads at once. Every call ends on every
- * input and uses at most 64 KiB of stack.
+ * No call allocates or keeps state; of the C library it needs memcpy and
+ * memset alone. A call may run on any number of threads at once. Every call
+ * ends on every input and uses less than 32 KiB of stack.
  *
  * NUMBERS AND LAYOUTS
  *

@@ -63,6 +63,28 @@ static int answers(struct clifford_answer answer, uint16_t number, uint16_t valu
     return answer.number == number && answer.value == value;
 }
 
+/* d = 2, n = 2, rows A,2,1,1 then S,1,0,1: the inverse composed in either order
+   gives the units. The closed formula of the source paper fails here. */
+static void undo_both_ways(const uint8_t *units)
+{
+    const uint16_t list_numbers[] = {3, 2, 1, 1, 2, 1, 0, 1};
+    const size_t len = CLIFFORD_TABLEAU_BYTES(2);
+    uint8_t tableau[CLIFFORD_TABLEAU_BYTES(2)], undone[CLIFFORD_TABLEAU_BYTES(2)];
+    uint8_t *list = lend(list_numbers, 8);
+    uint8_t *out;
+
+    expect(clifford_tableau(2, 2, list, 2 * CLIFFORD_ROW_BYTES, tableau, len) == 0,
+           "both ways, tableau");
+    expect(clifford_inverse(2, 2, tableau, len, undone, len) == 0, "both ways, inverse");
+    out = output(len);
+    expect(clifford_compose(2, 2, tableau, len, undone, len, out, len) == 0, "both ways, after");
+    expect_output(units, len, len, "both ways, after, the units");
+    out = output(len);
+    expect(clifford_compose(2, 2, undone, len, tableau, len, out, len) == 0, "both ways, before");
+    expect_output(units, len, len, "both ways, before, the units");
+    free(list);
+}
+
 int main(void)
 {
     /* d = 4, n = 2: the document's list and its tableau. */
@@ -95,6 +117,8 @@ int main(void)
     uint8_t *image = lend(image_numbers, 5);
     uint8_t undone[CLIFFORD_TABLEAU_BYTES(2)];
     uint8_t *out;
+
+    undo_both_ways(units);
 
     expect(answers(clifford_least_multiplier(6, 2, 1), 0, 3), "least multiplier");
     expect(answers(clifford_least_multiplier(6, 6, 1), CLIFFORD_RANGE, 0),

@@ -5,7 +5,7 @@ use Prim.Native.Nat.{ℕ, zero, suc, _+_, _*_, _/_, _%_, _≤_, _<_, suc-le-suc}
 use native.Mathlib.Nat.{zero-lt-suc, zero-add, suc-add, add-suc, add-zero, le-of-suc-le-suc, not-suc-le-zero, mod-add-div'}
 use native.Mathlib.Numerals.{add-one}
 use native.Mathlib.Omega.{arith}
-use lib.ListN.{length, getD, set, drop, length-append}
+use lib.ListN.{length, getD, set, drop}
 use lib.Seq.{sets, sets-eq}
 use Rattle.arith.specs.Bytes.{tab, numberAt, bytesOf, front}
 

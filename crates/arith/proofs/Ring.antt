@@ -12,7 +12,7 @@
 -- Refused with `⊥` against `Unit` at `tt`: the two sides are not equal as polynomials. Refused at `search`: a part is no atom, sum, product, negative or remainder.
 use mathlib.Core.Path.{_≡_, refl, sym, _∙_, ap, ap₂, subst}
 use mathlib.Core.List.{List, [], _∷_}
-use mathlib.Core.Bool.{Bool, true, false, _&&_}
+use mathlib.Core.Bool.{Bool, _&&_}
 use Prim.Native.Nat.{ℕ, zero, suc, _+_, _*_, _-_, _%_, _≤_, _<_}
 use native.Mathlib.Nat.{add-zero, zero-add, mod-zero, mul-zero, one-mul}
 use native.Mathlib.Omega.{arith}

@@ -6,7 +6,7 @@ use Prim.Native.Nat.{ℕ, _+_, _*_, _-_, _%_, _≤_, _<_}
 use native.Mathlib.Omega.{arith}
 use Rattle.arith.proofs.Cong.{Cong}
 use Rattle.arith.specs.Residues.{neg}
-use Rattle.arith.proofs.Ring.{Q, var, con, _⊗_, ring₁, ring₂, ring₁-by, ringₙ-by, times, quote}
+use Rattle.arith.proofs.Ring.{Q, var, con, _⊗_, ring₁, ring₂, ring₁-by, times, quote}
 
 -- 1. The gate S keeps products. An equation over ℕ with no negative: `omega` multiplies it out.
 s-gate : (d k v s : ℕ) → k * ((v + s) * (v + s + d)) ≡ k * (v * (v + d)) + k * (s * (s + d)) + 2 * (k * (v * s))

@@ -77,7 +77,13 @@ pub extern "C" fn clifford_image(d: u16, n: u16, tableau: &[u8], p: &[u8], out: 
 
 // The first tableau, then the second.
 #[no_mangle]
-pub extern "C" fn clifford_compose(d: u16, n: u16, first: &[u8], second: &[u8], out: &mut [u8]) -> u16
+pub extern "C" fn clifford_compose(
+    d: u16,
+    n: u16,
+    first: &[u8],
+    second: &[u8],
+    out: &mut [u8],
+) -> u16
     ensures { λ r. ⌜ Written (composeRefusal d n (now (first .entry)) (now (second .entry)) (length (now (out .entry)))) (composeAnswer d n (now (first .entry)) (now (second .entry))) (now (out .entry)) (now (out .exit)) r ⌝ }
 {
     tableau::calls::compose(d, n, first, second, out)

@@ -250,7 +250,7 @@ listNumbers-at (w ∷ ws) w₀ (suc r) o h k =
     let e : 4 * suc r + o ≡ suc (suc (suc (suc (4 * r + o)))) = omega arith in
     rw e (listNumbers-at ws w₀ r o (le-of-suc-le-suc h) k)
 
-listNumbers-length : (ws : List WrittenRow) → length (listNumbers ws) ≡ 4 * length ws
+pub listNumbers-length : (ws : List WrittenRow) → length (listNumbers ws) ≡ 4 * length ws
 unfolding listNumbers
 listNumbers-length [] = refl
 listNumbers-length (w ∷ ws) = omega (arith, listNumbers-length ws)
@@ -260,7 +260,7 @@ module _ (ws : List WrittenRow) (rest : List ℕ) where
   number-encoded : (w₀ : WrittenRow) (r o : ℕ) → r < length ws → o < 4 → numberAt (encodeRows ws ++ rest) (4 * r + o) ≡ getD (rowNumbers (getD ws r w₀)) o 0
   number-encoded w₀ r o h k = number-bytes (listNumbers ws) rest (4 * r + o) (omega (arith, listNumbers-length ws)) ∙ listNumbers-at ws w₀ r o h k
 
-  row-encoded : (w₀ : WrittenRow) (r : ℕ) → r < length ws → rowAt (encodeRows ws ++ rest) r ≡ getD ws r w₀
+  pub row-encoded : (w₀ : WrittenRow) (r : ℕ) → r < length ws → rowAt (encodeRows ws ++ rest) r ≡ getD ws r w₀
   row-encoded w₀ r h =
       let e : 4 * r ≡ 4 * r + 0 = omega arith in
       row-path (ap (numberAt (encodeRows ws ++ rest)) e ∙ number-encoded w₀ r 0 h (omega arith)) (number-encoded w₀ r 1 h (omega arith)) (number-encoded w₀ r 2 h (omega arith)) (number-encoded w₀ r 3 h (omega arith))

@@ -17,7 +17,7 @@ use Rattle.arith.specs.declared.checks.Answer.{Answer}
 use Rattle.pauli.specs.Pauli.{Pauli}
 use Rattle.gates.specs.Row.{Row, run, undo}
 use Rattle.gates.specs.Written.{WrittenRow, written, meant, listNumbers, encodeRows, listRows, rowsOf, allLegalRows}
-use Rattle.gates.proofs.Written.{list-encoded, rows-meant, all-legal-written}
+use Rattle.gates.proofs.Written.{list-encoded, rows-meant, all-legal-written, listNumbers-length}
 use Rattle.tableau.specs.Tableau.{WellFormed, Sound, Pairing, Even}
 use Rattle.tableau.specs.Bytes.{tableauBytes, decodeTableau}
 use Rattle.tableau.specs.Range.{tableauRangeOf}
@@ -27,7 +27,7 @@ use Rattle.tableau.proofs.Tests.{soundness-says, sound-good}
 use Rattle.synthesis.specs.Reduce.{State, start, reduce, synthesised}
 use Rattle.synthesis.specs.Progress.{undoRows, Holds}
 use Rattle.synthesis.specs.Demand3.{Realises, Realisable, malformedOf, synthesisRefusal, tableauRefusal, handed, HandsBack, Synthesised}
-use Rattle.synthesis.proofs.Progress.{numbers-length, undo-length}
+use Rattle.synthesis.proofs.Progress.{undo-length}
 use Rattle.synthesis.proofs.Demand3.{sound-realised, accepted-realisable, refused-unrealisable}
 
 -- ---- numbers
@@ -63,7 +63,7 @@ module _ (d n : ℕ) (bytes : List ℕ) (room : ℕ) where
 
 -- ---- the output's bytes: the undo rows in their order, reversed
 rows-bytes : (ws : List WrittenRow) → length (encodeRows ws) ≡ 8 * length ws
-rows-bytes ws = omega (arith, bytes-length (listNumbers ws), numbers-length ws)
+rows-bytes ws = omega (arith, bytes-length (listNumbers ws), listNumbers-length ws)
 
 undo-reversed : (d : ℕ) (rows : List Row) → reverse (undoRows d rows) ≡ map written (map (undo d) rows)
 unfolding undoRows

@@ -6,7 +6,7 @@ use mathlib.Core.Logic.{_≢_}
 use Prim.Native.Nat.{ℕ, suc, _+_, _*_, _-_, _≤_}
 use native.Mathlib.Nat.{add-zero}
 use native.Mathlib.Omega.{arith}
-use lib.ListN.{length, length-map, length-reverse, length-append}
+use lib.ListN.{length, length-map, length-reverse}
 use lib.Seq.{sets}
 use lib.Dec.{eqb}
 use Rattle.arith.specs.Bytes.{bytesOf}
@@ -15,7 +15,7 @@ use Rattle.arith.proofs.Cases.{eqb-case}
 use Rattle.pauli.specs.Pauli.{Pauli}
 use Rattle.gates.specs.Row.{Row, Legal, apply, undo}
 use Rattle.gates.specs.Written.{WrittenRow, written, meant, legalRow, rowNumbers, listNumbers, encodeRows}
-use Rattle.gates.proofs.Written.{legal-written, meant-of-written}
+use Rattle.gates.proofs.Written.{legal-written, meant-of-written, listNumbers-length}
 use Rattle.tableau.specs.Tableau.{upFrom}
 use Rattle.synthesis.specs.Reduce.{State, put, each, start}
 use Rattle.synthesis.specs.View.{tableView}
@@ -27,11 +27,6 @@ numbers-append : (ws us : List WrittenRow) → listNumbers (ws ++ us) ≡ listNu
 unfolding listNumbers
 numbers-append [] us = refl
 numbers-append (w ∷ ws) us = ap (λ (l : List ℕ). rowNumbers w ++ l) (numbers-append ws us) ∙ sym (append-assoc (rowNumbers w) (listNumbers ws) (listNumbers us))
-
-pub numbers-length : (ws : List WrittenRow) → length (listNumbers ws) ≡ 4 * length ws
-unfolding listNumbers
-numbers-length [] = refl
-numbers-length (w ∷ ws) = let e = numbers-length ws in omega (arith, length-append (rowNumbers w) (listNumbers ws))
 
 -- the four numbers of a row, written one after the other
 pub write-four : (out one two three four : List ℕ) (r a b x y : ℕ) → one ≡ sets out (2 * (4 * r)) (bytesOf (a ∷ [])) → two ≡ sets one (2 * (4 * r + 1)) (bytesOf (b ∷ []))
@@ -57,7 +52,7 @@ write-row old first count ws w e =
     let q : 8 * count ≡ 2 * (4 * count) = omega arith in
     ap (λ (k : ℕ). sets (sets old k (encodeRows ws)) (8 * count) (encodeRows (w ∷ []))) p
     ∙ ap (λ (k : ℕ). sets (sets old (2 * (4 * first)) (encodeRows ws)) k (encodeRows (w ∷ []))) q
-    ∙ write-more old (4 * first) (4 * count) (listNumbers ws) (listNumbers (w ∷ [])) (omega (arith, numbers-length ws))
+    ∙ write-more old (4 * first) (4 * count) (listNumbers ws) (listNumbers (w ∷ [])) (omega (arith, listNumbers-length ws))
     ∙ ap (λ (k : ℕ). sets old k (bytesOf (listNumbers ws ++ listNumbers (w ∷ [])))) (sym p)
     ∙ ap (λ (l : List ℕ). sets old (8 * first) (bytesOf l)) (sym (numbers-append ws (w ∷ [])))
 

@@ -9,11 +9,22 @@ use native.Mathlib.Omega.{arith}
 use lib.ListN.{length, getD, set, length-set, length-reverse, List·getD-append}
 use lib.Seq.{sets, ext-getD, getD-set-same, getD-set-other, getD-append-seam}
 use Rattle.arith.specs.Bytes.{bytesOf}
-use Rattle.arith.proofs.Bytes.{tab-at}
 use Rattle.arith.proofs.Cases.{by-eq, by-less}
 use Rattle.gates.specs.Written.{WrittenRow, rowAt, listNumbers, encodeRows}
-use Rattle.gates.proofs.Written.{rows-encoded}
-use Rattle.synthesis.specs.Reversal.{noRow, swapped, turned}
+use Rattle.gates.proofs.Written.{row-encoded}
+
+-- ---- the reversal as the program does it: the first row with the last, the second with the last but one, and so on
+-- no row, where a list has none to look at
+abbrev noRow : WrittenRow
+noRow = record { kind = 0; first = 0; second = 0; power = 0 }
+
+abbrev swapped : List WrittenRow → ℕ → ℕ → List WrittenRow
+swapped ws a b = set (set ws a (getD ws b noRow)) b (getD ws a noRow)
+
+-- after r swaps
+unfoldable pub turned : List WrittenRow → ℕ → List WrittenRow
+turned ws zero = ws
+turned ws (suc r) = swapped (turned ws r) r (length ws - 1 - r)
 
 -- ---- a row of rows in bytes is written anew
 sets-cons : (x : ℕ) (l : List ℕ) (i : ℕ) (vs : List ℕ) → sets (x ∷ l) (suc i) vs ≡ x ∷ sets l i vs
@@ -33,9 +44,6 @@ set-row (w ∷ ws) rest (suc k) x h =
     rw e (sets-skip (encodeRows (w ∷ [])) (encodeRows ws ++ rest) (8 * k) (encodeRows (x ∷ [])) ∙ ap (λ (l : List ℕ). encodeRows (w ∷ []) ++ l) (set-row ws rest k x (le-of-suc-le-suc h)))
 
 -- a row of them is read
-row-encoded : (ws : List WrittenRow) (rest : List ℕ) (k : ℕ) → k < length ws → rowAt (encodeRows ws ++ rest) k ≡ getD ws k noRow
-row-encoded ws rest k h = sym (tab-at (rowAt (encodeRows ws ++ rest)) (length ws) k noRow h) ∙ ap (λ (l : List WrittenRow). getD l k noRow) (rows-encoded ws rest)
-
 -- two rows written
 pub write-two : (a b : ℕ) (out : List ℕ) {one two : List ℕ} {x y x′ y′ : WrittenRow} → one ≡ sets out (8 * a) (encodeRows (y ∷ [])) → two ≡ sets one (8 * b) (encodeRows (x ∷ [])) → x ≡ x′ → y ≡ y′
     → two ≡ sets (sets out (8 * a) (encodeRows (y′ ∷ []))) (8 * b) (encodeRows (x′ ∷ []))
@@ -55,7 +63,7 @@ swap-rows ws rest a b {old} {new} ha hb e f =
     ∙ set-row (set ws a (getD ws b noRow)) rest b (getD ws a noRow) (omega (arith, length-set ws a (getD ws b noRow)))
   where
     at : (k : ℕ) → k < length ws → rowAt old k ≡ getD ws k noRow
-    at k h = ap (λ (l : List ℕ). rowAt l k) e ∙ row-encoded ws rest k h
+    at k h = ap (λ (l : List ℕ). rowAt l k) e ∙ row-encoded ws rest noRow k h
 
 -- ---- the swaps
 turned-length : (ws : List WrittenRow) (r : ℕ) → length (turned ws r) ≡ length ws

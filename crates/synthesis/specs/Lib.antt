@@ -1,6 +1,5 @@
 pub mod Demand3
 pub mod Progress
 pub mod Reduce
-pub mod Reversal
 pub mod Turns
 pub mod View

@@ -4,8 +4,7 @@ use mathlib.Core.List.{List, _++_}
 use Prim.Native.Nat.{ℕ, _/_, _-_, _≤_}
 use lib.ListN.{length}
 use Rattle.gates.specs.Written.{WrittenRow, encodeRows}
-use Rattle.synthesis.specs.Reversal.{turned}
-use Rattle.synthesis.proofs.Reversed.{turned-none, turned-next, turned-reverse}
+use Rattle.synthesis.proofs.Reversed.{turned, turned-none, turned-next, turned-reverse}
 use native.Mathlib.Omega.{arith}
 use borrow.Author.Needs.{needs}
 use Rattle.synthesis.proofs.list.reverse_rows.Statement.{statement}
