@@ -1,16 +1,17 @@
-# make             the library
-# make test        everything: proofs, must-fail edits, hosts, comparison; the last line is 'N passed, 0 failed'
+# make             the library and the text program
+# make test        everything: proofs, must-fail edits, hosts, comparison, text cases; the last line is 'N passed, 0 failed'
 # make lib         build/libclifford.a, beside include/clifford.h
+# make program     build/convert, the text program
 # make bench       the benchmark table
-# make install     header, archive and pkg-config file, under PREFIX
+# make install     header, archive, pkg-config file and text program, under PREFIX
 # make clean       removes what was built
 
 PREFIX ?= /usr/local
 VERSION = 1.0.0
 
-.PHONY: all test gate hosts lib install clean
+.PHONY: all test gate hosts lib program install clean
 
-all: lib
+all: lib program
 
 # The gate's log is kept, so that its last line can be printed last.
 test: gate hosts
@@ -19,7 +20,7 @@ test: gate hosts
 gate:
 	@sh tests/gate
 
-hosts: reference compare ctest pyexample
+hosts: reference compare ctest pyexample texttest
 
 lib: build/libclifford.a
 
@@ -30,13 +31,21 @@ build/libclifford.a: $(SOURCES)
 	rt staticlib clifford > build/lib.log 2>&1 || { tail -n 40 build/lib.log; exit 1; }
 	cp target/staticlib/libclifford.a $@
 
+program: build/convert
+
+build/convert: $(SOURCES)
+	@mkdir -p build
+	rt check convert > build/convert.log 2>&1 || { tail -n 40 build/convert.log; exit 1; }
+	cp target/bin/convert $@
+
 include host.mk
 
-install: build/libclifford.a
-	install -d $(DESTDIR)$(PREFIX)/include $(DESTDIR)$(PREFIX)/lib/pkgconfig
+install: build/libclifford.a build/convert
+	install -d $(DESTDIR)$(PREFIX)/include $(DESTDIR)$(PREFIX)/lib/pkgconfig $(DESTDIR)$(PREFIX)/bin
 	install -m 644 include/clifford.h $(DESTDIR)$(PREFIX)/include/
 	install -m 644 build/libclifford.a $(DESTDIR)$(PREFIX)/lib/
 	sed -e 's|@PREFIX@|$(PREFIX)|' -e 's|@VERSION@|$(VERSION)|' clifford.pc.in > $(DESTDIR)$(PREFIX)/lib/pkgconfig/clifford.pc
+	install -m 755 build/convert $(DESTDIR)$(PREFIX)/bin/clifford-convert
 
 clean:
 	rm -rf build target

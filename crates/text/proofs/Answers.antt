@@ -1,0 +1,101 @@
+-- The reader's answer is the one that the format says: from `Simulate` and `Sound`. Assumes nothing.
+use mathlib.Core.Path.{_≡_, refl, sym, ap, _∙_}
+use mathlib.Core.Bool.{true}
+use mathlib.Core.Logic.{_⊎_, inl, inr}
+use mathlib.Core.List.{List, [], _∷_, _++_}
+use Prim.Native.Nat.{ℕ, _+_, _≤_, _<_}
+use native.Mathlib.Nat.{add-zero, zero-add}
+use native.Mathlib.Omega.{arith}
+use lib.ListN.{length, getD, drop}
+use lib.Seq.{sets, sets-eq}
+use Rattle.arith.specs.Bytes.{bytesOf, front}
+use Rattle.arith.proofs.Bytes.{bytes-length}
+use Rattle.gates.specs.Written.{rowNumbers}
+use Rattle.text.specs.Format.{line, each, File, tableauFile, listFile, FileFits, printFile, LaidOut}
+use Rattle.text.specs.Reads.{fullColumns, fileNumbers, readingOf, Reads, answerOf}
+use Rattle.text.specs.Scan.{Within, Held, run, turnOf, turnOut, openingOf, startOf}
+use Rattle.text.specs.declared.reading.Form.the-variants.{Column, GateRow}
+use Rattle.text.specs.declared.reading.Reading.the-variants.{NoFile}
+use Rattle.text.specs.declared.reading.State.{State}
+use Rattle.text.proofs.Turns.{within-turn}
+use Rattle.text.proofs.Simulate.{st, held, rowsFull, tableau-run, list-run}
+use Rattle.text.proofs.Sound.{run-known, opening-known, Printed, finish}
+
+-- what the reader comes to on a text of two bytes or more
+abbrev pub ranOn : List ℕ → List ℕ → Held
+ranOn text out = run (startOf (openingOf (getD text 0 0) (getD text 1 0))) out (drop 2 text)
+
+abbrev lastState : File → State
+lastState (tableauFile d n cs) = st Column d n (length cs) 0 (length (each (λ (x : List ℕ). x) cs)) (fullColumns n cs)
+lastState (listFile d n rs) = st GateRow d n (length rs) 0 (length (each rowNumbers rs)) (rowsFull n true rs)
+
+print-run : (f : File) (out : List ℕ) → FileFits f → ranOn (printFile f) out ≡ held (lastState f) (sets out 0 (bytesOf (fileNumbers f)))
+unfolding line openingOf
+print-run (tableauFile d n cs) out fits = tableau-run d n cs out fits
+print-run (listFile d n rs) out fits = list-run d n rs out fits
+
+laid-run : (text out : List ℕ) (f : File) → LaidOut text f → ranOn text out ≡ held (lastState f) (sets out 0 (bytesOf (fileNumbers f)))
+laid-run text out f h = ap (λ (t : List ℕ). ranOn t out) (h .1 .1) ∙ print-run f out (h .1 .0)
+
+last-answer : (f : File) → answerOf (lastState f .field) (lastState f) ≡ readingOf f
+last-answer (tableauFile d n cs) = refl
+last-answer (listFile d n rs) = refl
+
+last-count : (f : File) → lastState f .count ≡ length (fileNumbers f)
+last-count (tableauFile d n cs) = refl
+last-count (listFile d n rs) = refl
+
+-- every number of the text took two bytes of it
+within-run : (u : List ℕ) (i : ℕ) (s : State) (out : List ℕ) → Within i s → Within (i + length u) (run s out u .state)
+unfolding run
+within-run [] i s out w = rw add-zero w
+within-run (b ∷ u) i s out w =
+    let e : i + length (b ∷ u) ≡ i + 1 + length u = omega arith in
+    rw e (within-run u (i + 1) (turnOf s b) (turnOut s b out) (within-turn i s b w))
+
+within-text : (text out : List ℕ) → 2 ≤ length text → Within (length text) (ranOn text out .state)
+within-text [] out h = absurd (omega arith)
+within-text (a ∷ []) out h = absurd (omega arith)
+within-text (a ∷ b ∷ u) out h =
+    let e : length (a ∷ b ∷ u) ≡ 2 + length u = omega arith in
+    rw e (within-run u 2 (startOf (openingOf a b)) out (omega arith))
+
+written : (out a : List ℕ) → length a ≤ length out → sets out 0 a ≡ front a out
+written out a h = sets-eq a out 0 (omega arith) ∙ ap (λ (k : ℕ). a ++ drop k out) (zero-add (length a))
+
+-- the answer for a file that is laid out
+reads-file : (text out : List ℕ) (f : File) → LaidOut text f → length (bytesOf (fileNumbers f)) ≤ length out
+    → Reads text out (readingOf f) (sets out 0 (bytesOf (fileNumbers f)))
+reads-file text out (tableauFile d n cs) h r =
+    record { columns = cs; laid = h; counted = refl; sized = refl; holds = written out (bytesOf (fileNumbers (tableauFile d n cs))) r }
+reads-file text out (listFile d n rs) h r = record { rows = rs; laid = h; counted = refl; holds = written out (bytesOf (fileNumbers (listFile d n rs))) r }
+
+no-file : (f : File) → readingOf f ≡ NoFile → ⊥
+no-file (tableauFile d n cs) e = let z : _≡_ {A = ℕ} 0 1 = cc in omega arith
+no-file (listFile d n rs) e = let z : _≡_ {A = ℕ} 0 1 = cc in omega arith
+
+known-text : (text out : List ℕ) → 2 ≤ length text → Printed text ⊎ (answerOf (ranOn text out .state .field) (ranOn text out .state) ≡ NoFile)
+known-text [] out h = absurd (omega arith)
+known-text (a ∷ []) out h = absurd (omega arith)
+known-text (a ∷ b ∷ u) out h = finish (ranOn (a ∷ b ∷ u) out .state) (a ∷ b ∷ u) (run-known u (startOf (openingOf a b)) out (a ∷ b ∷ []) (opening-known a b))
+
+pub reads : (text out : List ℕ) → 2 ≤ length text → length text ≤ 65536 → length text ≤ length out
+    → Reads text out (answerOf (ranOn text out .state .field) (ranOn text out .state)) (ranOn text out .out)
+reads text out h g r = go (known-text text out h)
+  where
+    go : Printed text ⊎ (answerOf (ranOn text out .state .field) (ranOn text out .state) ≡ NoFile)
+        → Reads text out (answerOf (ranOn text out .state .field) (ranOn text out .state)) (ranOn text out .out)
+    go (inl p) =
+        let f : File = p .0 in
+        let laid : LaidOut text f = (g, p .1) in
+        let e = laid-run text out f laid in
+        let c : lastState f .count ≡ length (fileNumbers f) = last-count f in
+        let w = rw e at (within-text text out h) in
+        rw (e, last-answer f) (reads-file text out f laid (omega (arith, w .counted, c, bytes-length (fileNumbers f))))
+    go (inr e) = rw e (λ f laid. no-file f (sym (last-answer f) ∙ ap (λ (x : Held). answerOf (x .state .field) (x .state)) (sym (laid-run text out f laid)) ∙ e))
+
+-- a text of fewer than two bytes is no file's
+pub short : (text : List ℕ) → length text < 2 → (f : File) → LaidOut text f → ⊥
+unfolding line
+short text h (tableauFile d n cs) laid = let e = ap length (laid .1 .1) in omega arith
+short text h (listFile d n rs) laid = let e = ap length (laid .1 .1) in omega arith

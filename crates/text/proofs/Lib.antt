@@ -1,0 +1,11 @@
+pub mod Turns
+pub mod Digits
+pub mod Simulate
+pub mod Sound
+pub mod Answers
+pub mod Writing
+pub mod Unique
+pub mod Back
+pub mod Lists
+pub mod Tableaus
+pub mod Texts

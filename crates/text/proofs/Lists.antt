@@ -1,0 +1,141 @@
+-- What the text program prints for an L file: its tableau, or a refusal. Assumes nothing.
+use mathlib.Core.Path.{_≡_, refl, sym, ap, ap₂, _∙_}
+use mathlib.Core.Logic.{_≢_}
+use mathlib.Core.Bool.{Bool, true, false, _&&_}
+use mathlib.Core.List.{List, [], _∷_, _++_, map}
+use Prim.Native.Nat.{ℕ, zero, suc, _+_, _*_, _%_, _≤_}
+use native.Mathlib.Omega.{arith}
+use lib.ListN.{length, take, drop, length-map, length-append}
+use lib.Seq.{take-at, length-take-le}
+use lib.Dec.{leb, eqb}
+use borrow.Author.Tests.{leb-true, leb-false, le-leb, lt-leb, eq-eqb}
+use Rattle.arith.specs.Bytes.{bytesOf, front}
+use Rattle.arith.specs.Answers.{Written}
+use Rattle.arith.specs.Refusals.{orElse, givenOf, listSizeOf, roomOf, rowOf, unlessHolds}
+use Rattle.arith.proofs.Bytes.{bytes-length}
+use Rattle.arith.proofs.Refusals.{given-good}
+use Rattle.pauli.specs.Pauli.{Pauli}
+use Rattle.pauli.specs.Bytes.{numbersOf}
+use Rattle.pauli.proofs.Ranges.{entries-length}
+use Rattle.gates.specs.Written.{WrittenRow, meant, allLegalRows, listRows, rowNumbers, listNumbers, encodeRows}
+use Rattle.gates.proofs.Written.{list-encoded, all-legal-meant}
+use Rattle.tableau.specs.Tableau.{tableauOf, AllInRange, none, more, WellFormed}
+use Rattle.tableau.specs.Bytes.{tableauBytes, tableauNumbers, encodeTableau}
+use Rattle.tableau.specs.Calls.{tableauRefusal, tableauAnswer}
+use Rattle.tableau.proofs.Accepted.{tableau-accepted}
+use Rattle.tableau.proofs.Bytes.{tableau-small}
+use Rattle.tableau.proofs.Run.{tableau-formed}
+use Rattle.text.specs.Format.{tableauFile, each, printFile, printRefusal}
+use Rattle.text.specs.Reads.{fullColumns}
+use Rattle.text.specs.Prints.{Prints, tableauFileOf}
+use Rattle.text.specs.Convert.{RefusedOr, rowCountOf, listRefusal, tableauPrint, ListConverts}
+use Rattle.text.proofs.Back.{rows-length, tableau-back}
+
+-- ---- the first r bytes of the output are what was printed
+pub printed : {text old new : List ℕ} {r : ℕ} → Prints text old r new → take r new ≡ text
+printed {text} {old} {new} {r} p = ap (take r) (p .fronts) ∙ take-at text (drop (length text) old) r (sym (p .counts))
+
+pub printed-room : {text old new : List ℕ} {r : ℕ} → Prints text old r new → r ≤ length new
+printed-room {text} {old} p = omega (arith, p .counts, ap length (p .fronts), length-append text (drop (length text) old))
+
+-- the front of a buffer is as long as is said
+pub front-length : (k : ℕ) (l : List ℕ) → k ≤ length l → k ≡ length (take k l)
+front-length k l h = sym (length-take-le k l h)
+
+pub front-room : (k : ℕ) (l : List ℕ) → k ≤ length l → k ≤ length (take k l)
+front-room k l h = omega (arith, length-take-le k l h)
+
+-- ---- a refusal is printed, or nothing is refused
+pub refuses : {z k : ℕ} {output : List ℕ} {otherwise : Type 0} → z ≡ k → k ≢ 0 → output ≡ printRefusal k → RefusedOr z output otherwise
+refuses e h p = record { refused = λ n. p ∙ ap printRefusal (sym e); accepted = λ q. absurd (h (sym e ∙ q)) }
+
+pub accepts : {z : ℕ} {output : List ℕ} {otherwise : Type 0} → z ≡ 0 → otherwise → RefusedOr z output otherwise
+accepts e p = record { refused = λ n. absurd (n e); accepted = λ q. p }
+
+-- past 1 and 2, or not past them
+pub given-first : (d n x y : ℕ) → (givenOf d n ≡ 0 → x ≡ y) → orElse (givenOf d n) x ≡ orElse (givenOf d n) y
+given-first d n x y h = go (givenOf d n) refl
+  where
+    go : (g : ℕ) → givenOf d n ≡ g → orElse g x ≡ orElse g y
+    go zero e = h e
+    go (suc g) e = refl
+
+-- ---- the refusals of a list are those of its rows
+large-lists : (k : ℕ) → leb (8 * k) (8 * 4096) ≡ leb k 4096
+large-lists k = go (leb k 4096) refl
+  where
+    go : (b : Bool) → leb k 4096 ≡ b → leb (8 * k) (8 * 4096) ≡ b
+    go true e = le-leb (8 * k) (8 * 4096) (omega (arith, leb-true k 4096 e))
+    go false e = lt-leb (8 * k) (8 * 4096) (omega (arith, leb-false k 4096 e))
+
+list-size : (k : ℕ) → listSizeOf (8 * k) ≡ rowCountOf k
+unfolding listSizeOf rowCountOf
+list-size k =
+    let e : eqb (8 * k % 8) 0 ≡ true = eq-eqb (8 * k % 8) 0 (omega arith) in
+    ap₂ (λ (a b : Bool). unlessHolds 3 (a && b)) e (large-lists k)
+
+pub has-room : (want have : ℕ) → want ≤ have → roomOf want have ≡ 0
+unfolding roomOf
+has-room want have h = ap (unlessHolds 4) (le-leb want have h)
+
+pub each-rows : (rows : List WrittenRow) → each rowNumbers rows ≡ listNumbers rows
+unfolding each listNumbers
+each-rows [] = refl
+each-rows (w ∷ ws) = ap (λ (l : List ℕ). rowNumbers w ++ l) (each-rows ws)
+
+pub rows-bytes : (rows : List WrittenRow) → length (encodeRows rows) ≡ 8 * length rows
+rows-bytes rows = omega (arith, bytes-length (listNumbers rows), ap length (each-rows rows), rows-length rows)
+
+refusal-same : (d n : ℕ) (list : List ℕ) (rows : List WrittenRow) (room : ℕ) → list ≡ encodeRows rows → 2112 ≤ room → tableauRefusal d n list room ≡ listRefusal d n rows
+refusal-same d n list rows room e h = given-first d n _ _ (λ g. ap₂ orElse sized (ap₂ orElse (roomy (given-good g .width .n-high)) rowed))
+  where
+    sized : listSizeOf (length list) ≡ rowCountOf (length rows)
+    sized = ap listSizeOf (ap length e ∙ rows-bytes rows) ∙ list-size (length rows)
+    roomy : n ≤ 16 → roomOf (tableauBytes n) room ≡ 0
+    roomy l = has-room (tableauBytes n) room (omega (arith, tableau-small n l))
+    rowed : rowOf (allLegalRows d n (listRows list)) ≡ rowOf (allLegalRows d n rows)
+    rowed = ap (λ (l : List WrittenRow). rowOf (allLegalRows d n l)) (ap listRows e ∙ list-encoded rows)
+
+-- ---- the tableau's bytes are its columns' numbers
+each-columns : (t : List Pauli) → each (λ (c : List ℕ). c) (map numbersOf t) ≡ tableauNumbers t
+unfolding each
+each-columns [] = refl
+each-columns (c ∷ cs) = ap (λ (l : List ℕ). numbersOf c ++ l) (each-columns cs)
+
+columns-full : {d n : ℕ} {t : List Pauli} → AllInRange d n t → fullColumns n (map numbersOf t) ≡ true
+unfolding fullColumns
+columns-full none = refl
+columns-full {n = n} (more {c = c} r rs) = ap₂ (λ (a b : Bool). a && b) (eq-eqb (length (numbersOf c)) (1 + 2 * n) (omega (arith, entries-length r))) (columns-full rs)
+
+columns-printed : {d n : ℕ} {t : List Pauli} (rest : List ℕ) → WellFormed d n t → tableauFileOf d n (encodeTableau t ++ rest) ≡ tableauFile d n (map numbersOf t)
+unfolding encodeTableau
+columns-printed {d} {n} {t} rest f =
+    ap (λ (xs : List ℕ). tableauFileOf d n (bytesOf xs ++ rest)) (sym (each-columns t))
+    ∙ tableau-back d n (map numbersOf t) rest (columns-full (f .ranges)) (length-map t numbersOf ∙ f .columns)
+
+-- ---- what is printed, where the call's answer is k
+module _ (d n : ℕ) (list old new : List ℕ) (k : ℕ) (w : Written (tableauRefusal d n list (length old)) (tableauAnswer d n list) old new k) where
+  -- a refusal
+  pub list-refused : {output : List ℕ} → 2112 ≤ length old → k ≢ 0 → output ≡ printRefusal k → ListConverts d n list output
+  list-refused h z p = λ rows e. refuses (sym (w .number ∙ refusal-same d n list rows (length old) e h)) z p
+
+  none-refused : k ≡ 0 → tableauRefusal d n list (length old) ≡ 0
+  none-refused z = sym (w .number) ∙ z
+
+  -- the tableau's bytes are there
+  pub list-width : k ≡ 0 → n ≤ 16
+  list-width z = tableau-accepted list (length old) (none-refused z) .given .width .n-high
+
+  written : k ≡ 0 → new ≡ front (tableauAnswer d n list) old
+  written z = rw (none-refused z) at (w .out)
+
+  -- the tableau
+  pub list-printed : {output : List ℕ} → 2112 ≤ length old → k ≡ 0 → output ≡ printFile (tableauFileOf d n new) → ListConverts d n list output
+  list-printed {output} h z p = λ rows e. accepts (sym (refusal-same d n list rows (length old) e h) ∙ none-refused z) (prints rows e)
+    where
+      prints : (rows : List WrittenRow) → list ≡ encodeRows rows → output ≡ tableauPrint d n rows
+      prints rows e =
+          let a = tableau-accepted list (length old) (none-refused z) in
+          let same : listRows list ≡ rows = ap listRows e ∙ list-encoded rows in
+          let formed = tableau-formed (omega (arith, a .given .dimension)) (all-legal-meant d n (listRows list) (a .legal)) in
+          p ∙ ap printFile (ap (tableauFileOf d n) (written z) ∙ columns-printed (drop (length (tableauAnswer d n list)) old) formed ∙ ap (λ (l : List WrittenRow). tableauFile d n (map numbersOf (tableauOf d n (map meant l)))) same)

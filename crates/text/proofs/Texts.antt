@@ -1,0 +1,63 @@
+-- What the text program prints for a text: by what the reader answers. Assumes nothing.
+use mathlib.Core.Path.{_≡_, sym, ap, subst, _∙_}
+use mathlib.Core.Bool.{Bool, true}
+use mathlib.Core.List.{List, _++_}
+use Prim.Native.Nat.{ℕ, _+_, _*_, _≤_, _<_}
+use native.Mathlib.Omega.{arith}
+use lib.ListN.{length, take, drop}
+use lib.Seq.{take-at}
+use Rattle.arith.specs.Bytes.{bytesOf}
+use Rattle.gates.specs.Written.{WrittenRow, rowNumbers, encodeRows}
+use Rattle.text.specs.Format.{File, tableauFile, listFile, each, printRefusal, LaidOut}
+use Rattle.text.specs.Reads.{fileNumbers, Reads, ColumnsRead, RowsRead}
+use Rattle.text.specs.Convert.{PrintsFor, ListConverts, ColumnsConvert, Converts}
+use Rattle.text.specs.declared.reading.Reading.{Reading}
+use Rattle.text.specs.declared.reading.Reading.the-variants.{NoFile, Tableau, Rows}
+use Rattle.text.proofs.Back.{rows-room, columns-room}
+use Rattle.text.proofs.Lists.{each-rows, rows-bytes}
+use Rattle.text.proofs.Unique.{one-file}
+
+-- ---- 9
+pub too-long : (text : List ℕ) → 65536 < length text → (f : File) → LaidOut text f → ⊥
+too-long text h f laid = omega (arith, laid .0)
+
+pub converts-none : {text output : List ℕ} → ((f : File) → LaidOut text f → ⊥) → output ≡ printRefusal 9 → Converts text output
+converts-none h p = record { file = λ f laid. absurd (h f laid); none = λ no. p }
+
+-- ---- a file: the only one that is laid out so
+converts-file : (text output : List ℕ) (f : File) → LaidOut text f → PrintsFor f output → Converts text output
+converts-file text output f laid p = record { file = λ g other. subst (λ (x : File). PrintsFor x output) (one-file text f g laid other) p; none = λ no. absurd (no f laid) }
+
+module _ (text before : List ℕ) (r : Reading) (buffer : List ℕ) (h : Reads text before r buffer) where
+  pub reads-none : r ≡ NoFile → (f : File) → LaidOut text f → ⊥
+  reads-none e = rw e at h
+
+  -- an L file
+  module _ {d n lines : ℕ} (e : r ≡ Rows d n lines) where
+    read-rows : RowsRead text before d n lines buffer
+    read-rows = rw e at h
+
+    pub rows-there : length buffer ≡ length before → 8 * lines ≤ length buffer
+    rows-there l = rows-room text before d n lines buffer read-rows l
+
+    pub converts-rows : (output : List ℕ) → ListConverts d n (take (8 * lines) buffer) output → Converts text output
+    converts-rows output p =
+        let rows : List WrittenRow = read-rows .rows in
+        let b : List ℕ = bytesOf (each rowNumbers rows) in
+        let same : b ≡ encodeRows rows = ap bytesOf (each-rows rows) in
+        let l : length b ≡ 8 * lines = omega (arith, ap length same, rows-bytes rows, read-rows .counted) in
+        converts-file text output (listFile d n rows) (read-rows .laid) (p rows (ap (take (8 * lines)) (read-rows .holds) ∙ take-at b (drop (length b) before) (8 * lines) l ∙ same))
+
+  -- a T file
+  module _ {d n lines : ℕ} {full : Bool} (e : r ≡ Tableau d n lines full) where
+    read-columns : ColumnsRead text before d n lines full buffer
+    read-columns = rw e at h
+
+    pub columns-there : length buffer ≡ length before → full ≡ true → 2 * (lines * (1 + 2 * n)) ≤ length buffer
+    columns-there l f = columns-room text before d n lines buffer (subst (λ (x : Bool). ColumnsRead text before d n lines x buffer) f read-columns) l
+
+    pub converts-columns : (output : List ℕ) → ColumnsConvert d n lines full buffer output → Converts text output
+    converts-columns output p =
+        let columns : List (List ℕ) = read-columns .columns in
+        let b : List ℕ = bytesOf (each (λ (c : List ℕ). c) columns) in
+        converts-file text output (tableauFile d n columns) (read-columns .laid) (p columns (drop (length b) before) (read-columns .counted) (read-columns .sized) (read-columns .holds))

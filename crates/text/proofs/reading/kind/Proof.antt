@@ -1,0 +1,22 @@
+-- `text::reading::kind` meets its contract. The letter is one of the six, or none of them.
+use borrow.Author.Tests.{ne-eqb}
+use Rattle.text.specs.Scan.{kindOf}
+use Rattle.text.proofs.reading.kind.Statement.{statement}
+use Rattle.text.proofs.reading.kind.Tie as tie
+
+returns-7 : tie.Need-returns-7
+unfolding kindOf
+returns-7 c =
+    let r = c .match .rest in
+    simp (ne-eqb _ _ (r .0 .0 .0 .0 .0 .1), ne-eqb _ _ (r .0 .0 .0 .0 .1), ne-eqb _ _ (r .0 .0 .0 .1), ne-eqb _ _ (r .0 .0 .1), ne-eqb _ _ (r .0 .1), ne-eqb _ _ (r .1))
+
+pub kind-spec : {M : Type 1} → statement M
+unfolding kindOf
+kind-spec = tie.close (tie.spec
+    (λ c. simp (c .match .keys1))  -- returns
+    (λ c. simp (c .match .keys2))  -- returns-2
+    (λ c. simp (c .match .keys3))  -- returns-3
+    (λ c. simp (c .match .keys4))  -- returns-4
+    (λ c. simp (c .match .keys5))  -- returns-5
+    (λ c. simp (c .match .keys6))  -- returns-6
+    returns-7)

@@ -1,0 +1,25 @@
+-- `text::reading::read` meets its contract. From the run of the text (`reads`); a text of fewer than two bytes is no file's (`short`).
+use native.Mathlib.Omega.{arith}
+use borrow.Author.Needs.{needs}
+use Rattle.text.proofs.Answers.{reads, short}
+use Rattle.text.proofs.reading.read.Statement.{statement}
+use Rattle.text.proofs.reading.read.Tie as tie
+
+returns-3 : tie.Need-returns-3
+returns-3 c =
+    let s = c .before .before .before .scan in
+    let o = c .before .before .before .before .before .opening in
+    let a = c .before .before .before .before .before .before .before .before .before .before .before .before .args in
+    rw (c .answer .ensures, s .ensures .0, s .ensures .1, o .ensures) (reads (a .text .now) (a .out .now) (omega arith) (omega arith) (omega arith))
+
+pub read-spec : {M : Type 1} → statement M
+read-spec = tie.close (tie.spec
+    (λ c. search needs)  -- returns
+    (λ c. short _ (c .if2 .taken))  -- returns-2
+    (λ c. search needs)  -- shared-slice-read-opening
+    (λ c. search needs)  -- shared-slice-read-opening-2
+    (λ c κs. search needs)  -- opening-requires
+    (λ c κs. search needs)  -- scan-requires
+    (λ c κs. search needs)  -- answer-requires
+    (λ c. search needs)  -- same-length
+    returns-3)

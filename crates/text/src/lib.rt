@@ -1,0 +1,84 @@
+// The text format, read and printed, and what the text program prints for a text (document 01, "Text program").
+use arith::checks::Check;
+use crate::printing::print_list;
+use crate::printing::print_refusal;
+use crate::printing::print_tableau;
+use crate::reading::Reading;
+use crate::reading::read;
+ghost use mathlib.Core.Path.{_≡_};
+ghost use mathlib.Core.Bool.{true};
+ghost use Prim.Native.Nat.{_+_, _*_, _≤_};
+ghost use lib.ListN.{length, take};
+ghost use Rattle.arith.specs.Refusals.{checked, orElse, givenOf};
+ghost use Rattle.text.specs.Convert.{countsOf, ListConverts, TableauConverts, ColumnsConvert, Converts};
+
+pub mod printing;
+pub mod reading;
+
+// Prints the tableau of a list, or a refusal.
+fn convert_list(d: u16, n: u16, list: &[u8], answer: &mut [u8], out: &mut [u8]) -> usize
+    requires { ⌜ (2112 ≤ length (now answer)) × (6350 ≤ length (now out)) ⌝ }
+    ensures { λ r. ⌜ (r ≤ length (now (out .exit))) × ListConverts d n (now (list .entry)) (take r (now (out .exit))) ⌝ }
+{
+    let number = tableau::calls::tableau_of(d, n, list, answer);
+    if number != 0 {
+        return print_refusal(number, out);
+    }
+    print_tableau(d, n, answer, out)
+}
+
+// 1 and 2, then 3: the counts of the numbers in the columns, and of the columns.
+fn columns_check(d: u16, n: u16, lines: usize, full: bool) -> Check
+    ensures { λ r. ⌜ r ≡ checked (orElse (givenOf d n) (countsOf n lines full)) ⌝ }
+{
+    let given = arith::checks::given(d, n);
+    let Check::Good = given else {
+        return given;
+    };
+    if full {
+        return arith::checks::size(2 * (n as usize), lines);
+    }
+    Check::Refused(3)
+}
+
+// Prints a list that does the tableau, or a refusal.
+fn convert_tableau(d: u16, n: u16, tableau: &[u8], answer: &mut [u8], out: &mut [u8]) -> usize
+    requires { ⌜ (11008 ≤ length (now answer)) × (27534 ≤ length (now out)) ⌝ }
+    ensures { λ r. ⌜ (r ≤ length (now (out .exit))) × TableauConverts d n (now (tableau .entry)) (take r (now (out .exit))) ⌝ }
+{
+    let found = synthesis::calls::synthesis(d, n, tableau, answer);
+    if found.number != 0 {
+        return print_refusal(found.number, out);
+    }
+    let count = found.value as usize;
+    print_list(d, n, &answer[..8 * count], count, out)
+}
+
+// Prints a list that does the tableau whose columns are the file's lines, or a refusal.
+fn convert_columns(d: u16, n: u16, lines: usize, full: bool, numbers: &[u8], answer: &mut [u8], out: &mut [u8]) -> usize
+    requires { ⌜ (11008 ≤ length (now answer)) × (27534 ≤ length (now out)) ⌝ }
+    requires { ⌜ (full ≡ true → 2 * (lines * (1 + 2 * n)) ≤ length (now numbers)) ⌝ }
+    ensures { λ r. ⌜ (r ≤ length (now (out .exit))) × ColumnsConvert d n lines full (now (numbers .entry)) (take r (now (out .exit))) ⌝ }
+{
+    let found = columns_check(d, n, lines, full);
+    let Check::Good = found else {
+        return print_refusal(arith::checks::number(found), out);
+    };
+    let m = n as usize;
+    convert_tableau(d, n, &numbers[..2 * (2 * m * (1 + 2 * m))], answer, out)
+}
+
+// What the text program prints, at the front of `out`; returns its length.
+pub fn convert(text: &[u8], numbers: &mut [u8], answer: &mut [u8], out: &mut [u8]) -> usize
+    requires { ⌜ (65536 ≤ length (now numbers)) × ((11008 ≤ length (now answer)) × (27534 ≤ length (now out))) ⌝ }
+    ensures { λ r. ⌜ (r ≤ length (now (out .exit))) × Converts (now (text .entry)) (take r (now (out .exit))) ⌝ }
+{
+    if 65536 < text.len() {
+        return print_refusal(9, out);
+    }
+    match read(text, numbers) {
+        Reading::NoFile => print_refusal(9, out),
+        Reading::Tableau { d, n, lines, full } => convert_columns(d, n, lines, full, numbers, answer, out),
+        Reading::Rows { d, n, lines } => convert_list(d, n, &numbers[..8 * lines], answer, out),
+    }
+}
