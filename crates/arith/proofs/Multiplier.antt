@@ -93,7 +93,7 @@ module _ (g a b d : ℕ) (p : 0 < g * d) (top : (c : ℕ) → Dvd c (g * a) → 
       (z .0, scaled (z .0) (coprime-sum pos (z .1) no-common))
 
 -- in general: the numbers are gcd (gcd a b) d times others, and m is reduced modulo d
--- (a helper by variables, so that the equations can be rewritten with)
+-- (over variables, so that the equations can be rewritten with)
 respell : {a b d g : ℕ} (a′ b′ d′ m : ℕ) → a ≡ g * a′ → b ≡ g * b′ → d ≡ g * d′ → gcd (g * a′ + m * (g * b′)) (g * d′) ≡ g → gcd (a + m * b) d ≡ g
 respell a′ b′ d′ m ea eb ed e = rw (ea, eb, ed) e
 

@@ -9,3 +9,4 @@ pub mod Back
 pub mod Lists
 pub mod Tableaus
 pub mod Texts
+pub mod Examples

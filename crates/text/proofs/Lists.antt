@@ -91,8 +91,10 @@ refusal-same d n list rows room e h = given-first d n _ _ (λ g. ap₂ orElse si
   where
     sized : listSizeOf (length list) ≡ rowCountOf (length rows)
     sized = ap listSizeOf (ap length e ∙ rows-bytes rows) ∙ list-size (length rows)
+
     roomy : n ≤ 16 → roomOf (tableauBytes n) room ≡ 0
     roomy l = has-room (tableauBytes n) room (omega (arith, tableau-small n l))
+
     rowed : rowOf (allLegalRows d n (listRows list)) ≡ rowOf (allLegalRows d n rows)
     rowed = ap (λ (l : List WrittenRow). rowOf (allLegalRows d n l)) (ap listRows e ∙ list-encoded rows)
 

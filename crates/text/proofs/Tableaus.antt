@@ -194,10 +194,13 @@ module _ (d n : ℕ) (tableau old new : List ℕ) (a : Answer) (s : Synthesised 
     where
       rows : List WrittenRow
       rows = listRows (handed (a .value) new)
+
       count : length rows ≡ a .value
       count = sym (length-map (listRows (handed (a .value) new)) meant) ∙ s .list z .counted
+
       same-rows : tab (rowAt (handed (a .value) new)) (a .value) ≡ rows
       same-rows = ap (tab (rowAt (handed (a .value) new))) (sym count ∙ tab-length (rowAt (handed (a .value) new)) (length (handed (a .value) new) / 8))
+
       list : PrintsList d n (decodeTableau n tableau) output
       list =
           let g = accepted-given d n tableau (length old) (sym (s .number) ∙ z) .0 .given in

@@ -1,7 +1,7 @@
 -- What the text program prints for a text: by what the reader answers. Assumes nothing.
-use mathlib.Core.Path.{_≡_, sym, ap, subst, _∙_}
+use mathlib.Core.Path.{_≡_, ap, subst, _∙_}
 use mathlib.Core.Bool.{Bool, true}
-use mathlib.Core.List.{List, _++_}
+use mathlib.Core.List.{List}
 use Prim.Native.Nat.{ℕ, _+_, _*_, _≤_, _<_}
 use native.Mathlib.Omega.{arith}
 use lib.ListN.{length, take, drop}
@@ -9,7 +9,7 @@ use lib.Seq.{take-at}
 use Rattle.arith.specs.Bytes.{bytesOf}
 use Rattle.gates.specs.Written.{WrittenRow, rowNumbers, encodeRows}
 use Rattle.text.specs.Format.{File, tableauFile, listFile, each, printRefusal, LaidOut}
-use Rattle.text.specs.Reads.{fileNumbers, Reads, ColumnsRead, RowsRead}
+use Rattle.text.specs.Reads.{Reads, ColumnsRead, RowsRead}
 use Rattle.text.specs.Convert.{PrintsFor, ListConverts, ColumnsConvert, Converts}
 use Rattle.text.specs.declared.reading.Reading.{Reading}
 use Rattle.text.specs.declared.reading.Reading.the-variants.{NoFile, Tableau, Rows}

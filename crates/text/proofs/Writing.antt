@@ -1,24 +1,19 @@
 -- Laws of what is written after what. Assumes nothing.
 use mathlib.Core.Path.{_≡_, refl, sym, ap, ap₂, _∙_}
 use mathlib.Core.List.{List, [], _∷_, _++_}
-use Prim.Native.Nat.{ℕ, suc, _+_, _*_, _/_, _%_, _≤_, _<_}
-use native.Mathlib.Nat.{zero-add, add-zero, suc-add, add-suc}
+use Prim.Native.Nat.{ℕ, _+_, _*_, _/_, _%_, _≤_, _<_}
+use native.Mathlib.Nat.{zero-add, add-zero}
 use native.Mathlib.Numerals.{add-one}
 use native.Mathlib.Omega.{arith}
 use lib.ListN.{length, set, drop, length-append}
 use lib.Seq.{sets, sets-eq}
-use Rattle.arith.proofs.Bytes.{tab-more}
+use Rattle.arith.proofs.Bytes.{tab-more, sets-append}
 use Rattle.arith.specs.Bytes.{tab, numberAt, numbersAt}
 use Rattle.gates.specs.Written.{rowAt}
 use Rattle.text.specs.Format.{digits, line, letterOf, header, columnLine, rowLine, each, printRefusal}
 use Rattle.text.specs.Prints.{Puts, Prints}
 use Rattle.text.proofs.Digits.{digits-low, digits-last}
 use Rattle.text.proofs.Sound.{header-text, commas, commas-snoc, line-snoc, each-snoc}
-
--- stores in a row
-sets-append : (l : List ℕ) (i : ℕ) (a b : List ℕ) → sets l i (a ++ b) ≡ sets (sets l i a) (i + length a) b
-sets-append l i [] b = ap (λ (k : ℕ). sets l k b) (sym (add-zero i))
-sets-append l i (x ∷ a) b = sets-append (set l i x) (suc i) a b ∙ ap (λ (k : ℕ). sets (sets (set l i x) (suc i) a) k b) (suc-add i (length a) ∙ sym (add-suc i (length a)))
 
 pub puts-none : (out : List ℕ) (at : ℕ) → Puts out at [] at out
 puts-none out at = record { ends = sym (add-zero at); holds = refl }

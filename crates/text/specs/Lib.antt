@@ -2,5 +2,4 @@ pub mod Format
 pub mod Scan
 pub mod Reads
 pub mod Prints
-pub mod Examples
 pub mod Convert

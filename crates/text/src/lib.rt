@@ -1,10 +1,10 @@
 // The text format, read and printed, and what the text program prints for a text (document 01, "Text program").
-use arith::checks::Check;
 use crate::printing::print_list;
 use crate::printing::print_refusal;
 use crate::printing::print_tableau;
 use crate::reading::Reading;
 use crate::reading::read;
+use arith::checks::Check;
 ghost use mathlib.Core.Path.{_≡_};
 ghost use mathlib.Core.Bool.{true};
 ghost use Prim.Native.Nat.{_+_, _*_, _≤_};
@@ -27,18 +27,26 @@ fn convert_list(d: u16, n: u16, list: &[u8], answer: &mut [u8], out: &mut [u8]) 
     print_tableau(d, n, answer, out)
 }
 
-// 1 and 2, then 3: the counts of the numbers in the columns, and of the columns.
-fn columns_check(d: u16, n: u16, lines: usize, full: bool) -> Check
-    ensures { λ r. ⌜ r ≡ checked (orElse (givenOf d n) (countsOf n lines full)) ⌝ }
+// 3: the counts of the numbers in the columns, and of the columns.
+fn counts(n: u16, lines: usize, full: bool) -> Check
+    ensures { λ r. ⌜ r ≡ checked (countsOf n lines full) ⌝ }
 {
-    let given = arith::checks::given(d, n);
-    let Check::Good = given else {
-        return given;
-    };
     if full {
         return arith::checks::size(2 * (n as usize), lines);
     }
     Check::Refused(3)
+}
+
+// 1 and 2, then 3.
+fn columns_check(d: u16, n: u16, lines: usize, full: bool) -> Check
+    ensures { λ r. ⌜ r ≡ checked (orElse (givenOf d n) (countsOf n lines full)) ⌝ }
+{
+    let of_given = arith::checks::given(d, n);
+    let of_counts = counts(n, lines, full);
+    let Check::Good = of_given else {
+        return of_given;
+    };
+    of_counts
 }
 
 // Prints a list that does the tableau, or a refusal.
@@ -55,7 +63,15 @@ fn convert_tableau(d: u16, n: u16, tableau: &[u8], answer: &mut [u8], out: &mut 
 }
 
 // Prints a list that does the tableau whose columns are the file's lines, or a refusal.
-fn convert_columns(d: u16, n: u16, lines: usize, full: bool, numbers: &[u8], answer: &mut [u8], out: &mut [u8]) -> usize
+fn convert_columns(
+    d: u16,
+    n: u16,
+    lines: usize,
+    full: bool,
+    numbers: &[u8],
+    answer: &mut [u8],
+    out: &mut [u8],
+) -> usize
     requires { ⌜ (11008 ≤ length (now answer)) × (27534 ≤ length (now out)) ⌝ }
     requires { ⌜ (full ≡ true → 2 * (lines * (1 + 2 * n)) ≤ length (now numbers)) ⌝ }
     ensures { λ r. ⌜ (r ≤ length (now (out .exit))) × ColumnsConvert d n lines full (now (numbers .entry)) (take r (now (out .exit))) ⌝ }
@@ -78,7 +94,15 @@ pub fn convert(text: &[u8], numbers: &mut [u8], answer: &mut [u8], out: &mut [u8
     }
     match read(text, numbers) {
         Reading::NoFile => print_refusal(9, out),
-        Reading::Tableau { d, n, lines, full } => convert_columns(d, n, lines, full, numbers, answer, out),
+        Reading::Tableau { d, n, lines, full } => convert_columns(
+            d,
+            n,
+            lines,
+            full,
+            numbers,
+            answer,
+            out,
+        ),
         Reading::Rows { d, n, lines } => convert_list(d, n, &numbers[..8 * lines], answer, out),
     }
 }

@@ -5,28 +5,28 @@ use Prim.Native.Nat.{ℕ}
 use Rattle.gates.specs.Written.{WrittenRow}
 use Rattle.text.specs.Format.{decimal, digits, line, letterOf, each, tableauFile, listFile, printFile, printRefusal}
 
-row : ℕ → ℕ → ℕ → ℕ → WrittenRow
+abbrev row : ℕ → ℕ → ℕ → ℕ → WrittenRow
 row k a b p = record { kind = k; first = a; second = b; power = p }
 
 -- F,1,0,1 then A,1,2,1 then Z,2,0,3 for d = 4 and n = 2
-the-input : printFile (listFile 4 2 (row 1 1 0 1 ∷ row 3 1 2 1 ∷ row 6 2 0 3 ∷ []))
+pub the-input : printFile (listFile 4 2 (row 1 1 0 1 ∷ row 3 1 2 1 ∷ row 6 2 0 3 ∷ []))
     ≡ 76 ∷ 44 ∷ 52 ∷ 44 ∷ 50 ∷ 10 ∷ 70 ∷ 44 ∷ 49 ∷ 44 ∷ 48 ∷ 44 ∷ 49 ∷ 10 ∷ 65 ∷ 44 ∷ 49 ∷ 44 ∷ 50 ∷ 44 ∷ 49 ∷ 10 ∷ 90 ∷ 44 ∷ 50 ∷ 44 ∷ 48 ∷ 44 ∷ 51 ∷ 10 ∷ []
-unfolding row each line digits decimal letterOf
+unfolding each line digits decimal letterOf
 the-input = refl
 
-the-output : printFile (tableauFile 4 2 ((0 ∷ 0 ∷ 0 ∷ 1 ∷ 0 ∷ []) ∷ (6 ∷ 0 ∷ 1 ∷ 0 ∷ 0 ∷ []) ∷ (2 ∷ 3 ∷ 3 ∷ 0 ∷ 0 ∷ []) ∷ (0 ∷ 0 ∷ 0 ∷ 3 ∷ 1 ∷ []) ∷ []))
+pub the-output : printFile (tableauFile 4 2 ((0 ∷ 0 ∷ 0 ∷ 1 ∷ 0 ∷ []) ∷ (6 ∷ 0 ∷ 1 ∷ 0 ∷ 0 ∷ []) ∷ (2 ∷ 3 ∷ 3 ∷ 0 ∷ 0 ∷ []) ∷ (0 ∷ 0 ∷ 0 ∷ 3 ∷ 1 ∷ []) ∷ []))
     ≡ 84 ∷ 44 ∷ 52 ∷ 44 ∷ 50 ∷ 10 ∷ 48 ∷ 44 ∷ 48 ∷ 44 ∷ 48 ∷ 44 ∷ 49 ∷ 44 ∷ 48 ∷ 10 ∷ 54 ∷ 44 ∷ 48 ∷ 44 ∷ 49 ∷ 44 ∷ 48 ∷ 44 ∷ 48 ∷ 10 ∷ 50 ∷ 44 ∷ 51 ∷ 44 ∷ 51 ∷ 44 ∷ 48 ∷ 44 ∷ 48 ∷ 10 ∷ 48 ∷ 44 ∷ 48 ∷ 44 ∷ 48 ∷ 44 ∷ 51 ∷ 44 ∷ 49 ∷ 10 ∷ []
 unfolding each line digits decimal
 the-output = refl
 
-nought : digits 0 ≡ 48 ∷ []
+pub nought : digits 0 ≡ 48 ∷ []
 unfolding digits decimal
 nought = refl
 
-largest : digits 65535 ≡ 54 ∷ 53 ∷ 53 ∷ 51 ∷ 53 ∷ []
+pub largest : digits 65535 ≡ 54 ∷ 53 ∷ 53 ∷ 51 ∷ 53 ∷ []
 unfolding digits decimal
 largest = refl
 
-refusal-9 : printRefusal 9 ≡ 82 ∷ 44 ∷ 57 ∷ 10 ∷ []
+pub refusal-9 : printRefusal 9 ≡ 82 ∷ 44 ∷ 57 ∷ 10 ∷ []
 unfolding line digits decimal
 refusal-9 = refl
