@@ -255,6 +255,9 @@ unfolding listNumbers
 listNumbers-length [] = refl
 listNumbers-length (w ∷ ws) = omega (arith, listNumbers-length ws)
 
+pub rows-bytes : (ws : List WrittenRow) → length (encodeRows ws) ≡ 8 * length ws
+rows-bytes ws = omega (arith, bytes-length (listNumbers ws), listNumbers-length ws)
+
 -- rows that are encoded and followed by any bytes are decoded again
 module _ (ws : List WrittenRow) (rest : List ℕ) where
   number-encoded : (w₀ : WrittenRow) (r o : ℕ) → r < length ws → o < 4 → numberAt (encodeRows ws ++ rest) (4 * r + o) ≡ getD (rowNumbers (getD ws r w₀)) o 0

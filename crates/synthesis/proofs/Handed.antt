@@ -17,7 +17,7 @@ use Rattle.arith.specs.declared.checks.Answer.{Answer}
 use Rattle.pauli.specs.Pauli.{Pauli}
 use Rattle.gates.specs.Row.{Row, run, undo}
 use Rattle.gates.specs.Written.{WrittenRow, written, meant, listNumbers, encodeRows, listRows, rowsOf, allLegalRows}
-use Rattle.gates.proofs.Written.{list-encoded, rows-meant, all-legal-written, listNumbers-length}
+use Rattle.gates.proofs.Written.{list-encoded, rows-meant, all-legal-written, listNumbers-length, rows-bytes}
 use Rattle.tableau.specs.Tableau.{WellFormed, Sound, Pairing, Even}
 use Rattle.tableau.specs.Bytes.{tableauBytes, decodeTableau}
 use Rattle.tableau.specs.Range.{tableauRangeOf}
@@ -62,9 +62,6 @@ module _ (d n : ℕ) (bytes : List ℕ) (room : ℕ) where
   accepted-given e = let z = orElse-none (malformedOf d n bytes room) _ e in (well-given (z .0), sound-good (z .1))
 
 -- ---- the output's bytes: the undo rows in their order, reversed
-rows-bytes : (ws : List WrittenRow) → length (encodeRows ws) ≡ 8 * length ws
-rows-bytes ws = omega (arith, bytes-length (listNumbers ws), listNumbers-length ws)
-
 undo-reversed : (d : ℕ) (rows : List Row) → reverse (undoRows d rows) ≡ map written (map (undo d) rows)
 unfolding undoRows
 undo-reversed d rows = reverse-reverse (map (λ r. written (undo d r)) rows) ∙ sym (map-map written (undo d) rows)

@@ -18,7 +18,7 @@ use Rattle.pauli.specs.Pauli.{Pauli}
 use Rattle.pauli.specs.Bytes.{numbersOf}
 use Rattle.pauli.proofs.Ranges.{entries-length}
 use Rattle.gates.specs.Written.{WrittenRow, meant, allLegalRows, listRows, rowNumbers, listNumbers, encodeRows}
-use Rattle.gates.proofs.Written.{list-encoded, all-legal-meant}
+use Rattle.gates.proofs.Written.{list-encoded, all-legal-meant, rows-bytes}
 use Rattle.tableau.specs.Tableau.{tableauOf, AllInRange, none, more, WellFormed}
 use Rattle.tableau.specs.Bytes.{tableauBytes, tableauNumbers, encodeTableau}
 use Rattle.tableau.specs.Calls.{tableauRefusal, tableauAnswer}
@@ -82,9 +82,6 @@ pub each-rows : (rows : List WrittenRow) → each rowNumbers rows ≡ listNumber
 unfolding each listNumbers
 each-rows [] = refl
 each-rows (w ∷ ws) = ap (λ (l : List ℕ). rowNumbers w ++ l) (each-rows ws)
-
-pub rows-bytes : (rows : List WrittenRow) → length (encodeRows rows) ≡ 8 * length rows
-rows-bytes rows = omega (arith, bytes-length (listNumbers rows), ap length (each-rows rows), rows-length rows)
 
 refusal-same : (d n : ℕ) (list : List ℕ) (rows : List WrittenRow) (room : ℕ) → list ≡ encodeRows rows → 2112 ≤ room → tableauRefusal d n list room ≡ listRefusal d n rows
 refusal-same d n list rows room e h = given-first d n _ _ (λ g. ap₂ orElse sized (ap₂ orElse (roomy (given-good g .width .n-high)) rowed))

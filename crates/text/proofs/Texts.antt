@@ -14,7 +14,8 @@ use Rattle.text.specs.Convert.{PrintsFor, ListConverts, ColumnsConvert, 
 use Rattle.text.specs.declared.reading.Reading.{Reading}
 use Rattle.text.specs.declared.reading.Reading.the-variants.{NoFile, Tableau, Rows}
 use Rattle.text.proofs.Back.{rows-room, columns-room}
-use Rattle.text.proofs.Lists.{each-rows, rows-bytes}
+use Rattle.gates.proofs.Written.{rows-bytes}
+use Rattle.text.proofs.Lists.{each-rows}
 use Rattle.text.proofs.Unique.{one-file}
 
 -- ---- 9
