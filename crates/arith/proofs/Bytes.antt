@@ -45,6 +45,10 @@ module _ {A : Type 0} where
   tab-ext f g zero h = refl
   tab-ext f g (suc n) h = ap₂ (λ (x : A) (l : List A). x ∷ l) (h 0 (zero-lt-suc n)) (tab-ext (λ i. f (suc i)) (λ i. g (suc i)) n (λ i l. h (suc i) (suc-le-suc l)))
 
+  -- equal tables, equal shorter ones
+  pub tab-fewer : (f g : ℕ → A) (m n : ℕ) (a : A) → n ≤ m → tab f m ≡ tab g m → tab f n ≡ tab g n
+  tab-fewer f g m n a h e = tab-ext f g n (λ i l. sym (tab-at f m i a (omega arith)) ∙ ap (λ (t : List A). getD t i a) e ∙ tab-at g m i a (omega arith))
+
   -- a list is the table of its elements
   pub tab-list : (a : A) (xs : List A) → tab (λ i. getD xs i a) (length xs) ≡ xs
   unfolding tab

@@ -67,6 +67,16 @@ pub orElse-assoc : (a b c : ℕ) → orElse (orElse a b) c ≡ orElse a (orElse 
 orElse-assoc zero b c = refl
 orElse-assoc (suc a) b c = refl
 
+-- ---- a call that tests in two parts: the first refuses; it has passed, and the second refuses, or answers
+pub stop-first : {z : ℕ} (x y : ℕ) {k : ℕ} {r : Check} → z ≡ orElse x y → r ≡ checked x → r ≡ Refused k → Stops r z
+stop-first x y s e g = rw s (stop x y e g)
+
+pub stop-second : {z : ℕ} (x y : ℕ) {k : ℕ} {r : Check} → z ≡ orElse x y → x ≡ 0 → r ≡ checked y → r ≡ Refused k → Stops r z
+stop-second x y s e f g = rw (s ∙ orElse-skip y e) (stop-last y f g)
+
+pub written-second : {z r : ℕ} (x y : ℕ) {answer old new : List ℕ} → z ≡ orElse x y → x ≡ 0 → Written y answer old new r → Written z answer old new r
+written-second x y s e w = rw (s ∙ orElse-skip y e) w
+
 -- ---- what holds where nothing is refused
 pub held : (k : ℕ) (test : Bool) → unlessHolds (suc k) test ≡ 0 → test ≡ true
 held k true e = refl

@@ -1,6 +1,6 @@
 // The checks of refusals 1 to 5, which answer an enum: the first that refuses ends a call.
 ghost use mathlib.Core.Path.{_≡_};
-ghost use Rattle.arith.specs.Refusals.{checked, numberOf, dimensionOf, widthOf, givenOf, sizeOf, listSizeOf, roomOf, rangeOf};
+ghost use Rattle.arith.specs.Refusals.{checked, numberOf, orElse, dimensionOf, widthOf, givenOf, sizeOf, listSizeOf, roomOf, rangeOf};
 
 // What a check finds: nothing, or the number of a refusal.
 pub enum Check {
@@ -90,6 +90,19 @@ pub fn room(want: usize, have: usize) -> Check
         return Check::Refused(4);
     }
     Check::Good
+}
+
+// 3 of an input, then 4 of an output.
+pub fn lent(want: usize, have: usize, answer: usize, space: usize) -> Check
+    ensures { λ r. ⌜ r ≡ checked (orElse (sizeOf want have) (roomOf answer space)) ⌝ }
+{
+    let length = size(want, have);
+    let roomy = room(answer, space);
+    // 3 comes before 4.
+    let Check::Good = length else {
+        return length;
+    };
+    roomy
 }
 
 pub fn range(bound: u16, x: u16) -> Check

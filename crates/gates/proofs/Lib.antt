@@ -1,3 +1,4 @@
+pub mod Acts
 pub mod Accepted
 pub mod Examples
 pub mod Kept

@@ -108,6 +108,9 @@ module _ (d n : ℕ) (w : WrittenRow) (legal : legalRow d n w ≡ true) where
   pub legal-second : takesTwo (w .kind) ≡ true → (1 ≤ w .second) × (w .second ≤ n)
   legal-second e = let t = two-held n (w .first) (w .second) (rw e at (tests d n w legal .second)) in (t .low, t .high)
 
+  pub legal-apart : takesTwo (w .kind) ≡ true → w .first - 1 ≢ w .second - 1
+  legal-apart e q = let t = two-held n (w .first) (w .second) (rw e at (tests d n w legal .second)) in let f = legal-first in t .other (omega arith)
+
   pub legal-unit : w .kind ≡ 4 → IsUnit d (w .power)
   legal-unit e = eqb-true (gcd (w .power) d) 1 (rw e at (tests d n w legal .unit))
 

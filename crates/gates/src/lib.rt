@@ -1,15 +1,17 @@
 // Gate rows: which are legal, what each does to a Pauli, and lists of them.
 use arith::residue::Residue;
 use pauli::Pauli;
+use pauli::touched::Touched;
 ghost use mathlib.Core.Path.{_≡_};
 ghost use mathlib.Core.Bool.{true};
-ghost use Prim.Native.Nat.{_≤_};
+ghost use Prim.Native.Nat.{ℕ, _≤_};
 ghost use Rattle.arith.specs.Refusals.{Dimension};
 ghost use Rattle.arith.specs.Units.{Unit};
 ghost use Rattle.pauli.specs.View.{view};
+ghost use Rattle.pauli.specs.Touched.{viewTouched};
 ghost use Rattle.gates.specs.Row.{apply};
-ghost use Rattle.gates.specs.Written.{meant, between, highest, legalPower, legalSecond, legalRow};
-ghost use Rattle.gates.specs.View.{viewRow, InverseRight};
+ghost use Rattle.gates.specs.Written.{meant, between, highest, takesTwo, legalPower, legalSecond, legalRow};
+ghost use Rattle.gates.specs.View.{viewRow, InverseRight, otherOf, Acts};
 
 pub mod calls;
 pub mod lists;
@@ -43,15 +45,12 @@ pub fn highest_power(kind: u16, d: u16) -> u16
     requires { ⌜ Dimension d ⌝ }
     ensures { λ r. ⌜ r ≡ highest d kind ⌝ }
 {
-    match kind {
-        1 => 3,
-        2 => 2 * d - 1,
-        3 => d - 1,
-        4 => d - 1,
-        5 => d - 1,
-        6 => d - 1,
-        _ => 0,
+    let highs = [0, 3, 2 * d - 1, d - 1, d - 1, d - 1, d - 1];
+    let line = kind as usize;
+    if line < 7 {
+        return highs[line];
     }
+    0
 }
 
 impl Row {
@@ -122,6 +121,38 @@ impl Row {
 }
 
 impl Ready {
+    // The second qudit, counted from 0: the first again where the kind takes one.
+    pub fn other(self) -> usize
+        requires { ⌜ (1 ≤ self .row .first) × (takesTwo (self .row .kind) ≡ true → 1 ≤ self .row .second) ⌝ }
+        ensures { λ r. ⌜ r ≡ otherOf (viewRow (self .row)) ⌝ }
+    {
+        let row = self.row;
+        let kind = row.kind;
+        match kind {
+            3 => row.second as usize - 1,
+            _ => row.first as usize - 1,
+        }
+    }
+
+    // What the row makes of the numbers that it touches.
+    pub fn act(self, t: Touched, d: u16) -> Touched
+        requires { ⌜ Dimension d × InverseRight d self ⌝ }
+        ensures { λ r. ⌜ ((n : ℕ) → legalRow d n (viewRow (self .row)) ≡ true → Acts d (viewRow (self .row)) (viewTouched t) (viewTouched r)) ⌝ }
+    {
+        let row = self.row;
+        let kind = row.kind;
+        let k = row.power;
+        match kind {
+            1 => t.effect_f(k, d),
+            2 => t.effect_s(k, d),
+            3 => t.effect_a(k, d),
+            4 => t.effect_m(k, self.inverse, d),
+            5 => t.effect_x(k, d),
+            6 => t.effect_z(k, d),
+            _ => t,
+        }
+    }
+
     // What the row makes of the Pauli.
     pub fn apply(self, p: Pauli, d: u16, n: usize) -> Pauli
         requires { ⌜ Dimension d × (n ≤ 16) ⌝ }
@@ -130,12 +161,12 @@ impl Ready {
     {
         let row = self.row;
         let kind = row.kind;
-        let i = row.first as usize - 1;
+        let i = row.first - 1;
         let k = row.power;
         match kind {
             1 => p.effect_f(i, k, d),
             2 => p.effect_s(i, k, d),
-            3 => p.effect_a(i, row.second as usize - 1, k, d),
+            3 => p.effect_a(i, row.second - 1, k, d),
             4 => p.effect_m(i, k, self.inverse, d),
             5 => p.effect_x(i, k, d),
             6 => p.effect_z(i, k, d),

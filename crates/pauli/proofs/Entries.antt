@@ -16,7 +16,10 @@ use Rattle.pauli.specs.View.{at, entries}
 use Rattle.pauli.proofs.Sums.{scaled}
 use Rattle.pauli.proofs.Lists.{cons-path}
 
--- ---- an entry set
+-- ---- an entry read, and one set
+pub entry : {n i : ℕ} (xs : List Residue) → i < n → getD (entries n xs) i 0 ≡ at xs i
+entry {n} {i} xs l = tab-at (at xs) n i 0 l
+
 at-same : (xs : List Residue) (i : ℕ) (x : Residue) → i < length xs → at (set xs i x) i ≡ x .0
 at-same xs i x h = ap (λ (r : Residue). r .0) (getD-set-same xs i x (record { 0 = 0 }) h)
 
@@ -38,12 +41,12 @@ entries-set n xs i x h = ext-getD 0 (entries n (set xs i x)) (set (entries n xs)
     inside l = omega (arith, tab-length (at (set xs i x)) n)
 
     at-each : (j : ℕ) → j < length (entries n (set xs i x)) → getD (entries n (set xs i x)) j 0 ≡ getD (set (entries n xs) i (x .0)) j 0
-    at-each j l = tab-at _ n j 0 (inside l) ∙ by-eq j i
+    at-each j l = entry (set xs i x) (inside l) ∙ by-eq j i
         (λ e. rw e (at-same xs i x h ∙ sym (getD-set-same (entries n xs) i (x .0) 0 (omega (arith, inside l, tab-length (at xs) n)))))
-        (λ ne. at-other xs i j x ne ∙ sym (tab-at (at xs) n j 0 (inside l)) ∙ sym (getD-set-other (entries n xs) i j (x .0) 0 ne))
+        (λ ne. at-other xs i j x ne ∙ sym (entry xs (inside l)) ∙ sym (getD-set-other (entries n xs) i j (x .0) 0 ne))
 
 -- ---- zeros
-tab-zero : (f : ℕ → ℕ) (n : ℕ) → ((i : ℕ) → f i ≡ 0) → tab f n ≡ replicate n 0
+pub tab-zero : (f : ℕ → ℕ) (n : ℕ) → ((i : ℕ) → f i ≡ 0) → tab f n ≡ replicate n 0
 unfolding tab
 tab-zero f zero h = refl
 tab-zero f (suc n) h = cons-path (h 0) (tab-zero (λ i. f (suc i)) n (λ i. h (suc i)))

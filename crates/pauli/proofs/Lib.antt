@@ -17,5 +17,6 @@ pub mod Onto
 pub mod Ranges
 pub mod Step
 pub mod Sums
+pub mod Numbers
 pub mod Undo
 pub mod Units

@@ -36,6 +36,14 @@ fn product_check(d: u16, n: u16, first: usize, second: usize, room: usize) -> Ch
     arith::checks::room(2 * (1 + 2 * (n as usize)), room)
 }
 
+// 3 of a Pauli, then 4 of an output for one.
+pub fn lent(n: u16, size: usize, room: usize) -> Check
+    ensures { λ r. ⌜ r ≡ checked (orElse (sizeOf (pauliBytes n) size) (roomOf (pauliBytes n) room)) ⌝ }
+{
+    let want = 2 * (1 + 2 * (n as usize));
+    arith::checks::lent(want, size, want, room)
+}
+
 // 1 and 2, then 3 of a Pauli, then 4 of an output.
 fn power_check(d: u16, n: u16, size: usize, room: usize) -> Check
     ensures { λ r. ⌜ r ≡ checked (orElse (givenOf d n) (orElse (sizeOf (pauliBytes n) size) (roomOf (pauliBytes n) room))) ⌝ }
@@ -44,14 +52,7 @@ fn power_check(d: u16, n: u16, size: usize, room: usize) -> Check
     let Check::Good = given else {
         return given;
     };
-    let want = 2 * (1 + 2 * (n as usize));
-    let length = arith::checks::size(want, size);
-    let space = arith::checks::room(want, room);
-    // 3 comes before 4.
-    let Check::Good = length else {
-        return length;
-    };
-    space
+    lent(n, size, room)
 }
 
 // The product of p and q, in this order.

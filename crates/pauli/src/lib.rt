@@ -9,6 +9,7 @@ use arith::residue::Phase;
 use arith::residue::Residue;
 
 pub mod effects;
+pub mod touched;
 
 pub struct Pauli {
     pub phase: Phase,

@@ -83,12 +83,12 @@ impl Pauli {
     {
         let v = self.v;
         let w = self.w;
+        let kv = crate::arrays::multiples(k, v, d, n);
+        let kw = crate::arrays::multiples(k, w, d, n);
         let twist = Residue::reduced(crate::arrays::sum_of_products(w, v, n), d);
         let twists = Phase::reduced(ordered_pairs(k) * (twist.0 as u64), d);
         let delta = self.phase;
         let phase = delta.times(k, d).plus(twists, d);
-        let kv = crate::arrays::multiples(k, v, d, n);
-        let kw = crate::arrays::multiples(k, w, d, n);
         Pauli {
             phase: phase,
             v: kv,

@@ -8,7 +8,7 @@ use native.Mathlib.Omega.{arith}
 use lib.ListN.{length, take, drop, length-map}
 use lib.Seq.{take-at, drop-at}
 use Rattle.arith.specs.Bytes.{front}
-use Rattle.arith.proofs.Bytes.{bytes-length, write-front}
+use Rattle.arith.proofs.Bytes.{write-front}
 use Rattle.arith.specs.Refusals.{orElse, unless, givenOf, sizeOf, roomOf}
 use Rattle.arith.proofs.Refusals.{Stops, Given, orElse-none, orElse-skip, orElse-assoc, given-good, size-good, room-good}
 use Rattle.arith.specs.Refusals.{numberOf}
@@ -16,17 +16,17 @@ use Rattle.arith.specs.declared.checks.Check.{Check}
 use Rattle.arith.specs.declared.checks.Answer.{Answer}
 use Rattle.pauli.specs.Pauli.{Pauli}
 use Rattle.gates.specs.Row.{Row, run, undo}
-use Rattle.gates.specs.Written.{WrittenRow, written, meant, listNumbers, encodeRows, listRows, rowsOf, allLegalRows}
-use Rattle.gates.proofs.Written.{list-encoded, rows-meant, all-legal-written, listNumbers-length, rows-bytes}
+use Rattle.gates.specs.Written.{WrittenRow, written, meant, encodeRows, listRows, rowsOf, allLegalRows}
+use Rattle.gates.proofs.Written.{list-encoded, rows-meant, all-legal-written, rows-bytes}
 use Rattle.tableau.specs.Tableau.{WellFormed, Sound, Pairing, Even}
 use Rattle.tableau.specs.Bytes.{tableauBytes, decodeTableau}
-use Rattle.tableau.specs.Range.{tableauRangeOf}
+use Rattle.tableau.specs.Parts.{sizedOf, testsOf}
 use Rattle.tableau.specs.Soundness.{soundnessOf}
 use Rattle.tableau.proofs.Bytes.{decode-formed}
 use Rattle.tableau.proofs.Tests.{soundness-says, sound-good}
 use Rattle.synthesis.specs.Reduce.{State, start, reduce, synthesised}
 use Rattle.synthesis.specs.Progress.{undoRows, Holds}
-use Rattle.synthesis.specs.Demand3.{Realises, Realisable, malformedOf, synthesisRefusal, tableauRefusal, handed, HandsBack, Synthesised}
+use Rattle.synthesis.specs.Demand3.{Realises, Realisable, malformedOf, synthesisRefusal, handed, HandsBack, Synthesised}
 use Rattle.synthesis.proofs.Progress.{undo-length}
 use Rattle.synthesis.proofs.Demand3.{sound-realised, accepted-realisable, refused-unrealisable}
 
@@ -42,14 +42,9 @@ pub record WellGiven (d n : ℕ) (bytes : List ℕ) (room : ℕ) : Type 0 where
   pub formed : WellFormed d n (decodeTableau n bytes)
 
 module _ (d n : ℕ) (bytes : List ℕ) (room : ℕ) where
-  -- 1 and 2 first
-  pub refusal-split : synthesisRefusal d n bytes room ≡ orElse (givenOf d n) (tableauRefusal d n bytes room)
-  refusal-split =
-      let s = sizeOf (tableauBytes n) (length bytes) in
-      let r = roomOf (40 * (n * n) + 48 * n) room in
-      let t = tableauRangeOf d (decodeTableau n bytes) in
-      let u = soundnessOf d n (decodeTableau n bytes) in
-      orElse-assoc (givenOf d n) (orElse s (orElse r t)) u ∙ ap (orElse (givenOf d n)) (orElse-assoc s (orElse r t) u ∙ ap (orElse s) (orElse-assoc r t u))
+  -- what the lengths decide, then what the numbers decide
+  pub refusal-parts : synthesisRefusal d n bytes room ≡ orElse (orElse (sizedOf d n (length bytes)) (roomOf (40 * (n * n) + 48 * n) room)) (testsOf d n (decodeTableau n bytes))
+  refusal-parts = simp orElse-assoc
 
   well-given : malformedOf d n bytes room ≡ 0 → WellGiven d n bytes room
   well-given e =
@@ -66,10 +61,10 @@ undo-reversed : (d : ℕ) (rows : List Row) → reverse (undoRows d rows) ≡ ma
 unfolding undoRows
 undo-reversed d rows = reverse-reverse (map (λ r. written (undo d r)) rows) ∙ sym (map-map written (undo d) rows)
 
-list-written : {d n count : ℕ} {t : List (List ℕ)} {old out new : List ℕ} {s : State} → Holds d n 0 old t out count s → 8 * count ≤ length old
+list-written : {d count : ℕ} {t : List Pauli} {old out new : List ℕ} {s : State} → Holds d 0 old t out count s → 8 * count ≤ length old
     → ((ws : List WrittenRow) (rest : List ℕ) → length ws ≡ count → out ≡ encodeRows ws ++ rest → new ≡ encodeRows (reverse ws) ++ rest)
     → new ≡ front (encodeRows (map written (map (undo d) (s .rows)))) old
-list-written {d} {n} {count} {t} {old} {out} {new} {s} h l f =
+list-written {d} {count} {t} {old} {out} {new} {s} h l f =
     let us = undoRows d (s .rows) in
     let vs = map written (map (undo d) (s .rows)) in
     let e : length us ≡ count = omega (arith, undo-length d (s .rows), h .counted) in
@@ -81,13 +76,11 @@ list-written {d} {n} {count} {t} {old} {out} {new} {s} h l f =
     ∙ ap (λ (x : ℕ). encodeRows vs ++ drop x old) q
 
 -- the reduction from the start, and the reversal
-pub list-reduced : {d n count : ℕ} {t : List (List ℕ)} {old out new : List ℕ} {v u : List Pauli} → v ≡ u → Holds d n 0 old t out count (reduce d n (start v)) → 8 * count ≤ length old
+pub list-reduced : {d count : ℕ} (n : ℕ) (u : List Pauli) {t : List Pauli} {old out new : List ℕ} → Holds d 0 old t out count (reduce d n (start u)) → 8 * count ≤ length old
     → ((ws : List WrittenRow) (rest : List ℕ) → length ws ≡ count → out ≡ encodeRows ws ++ rest → new ≡ encodeRows (reverse ws) ++ rest)
     → (count ≡ length (synthesised d n u)) × (new ≡ front (encodeRows (map written (synthesised d n u))) old)
 unfolding synthesised
-list-reduced {d} {n} {count} {t} {old} {out} {new} {v} {u} e h l f =
-    subst (λ (x : List Pauli). (count ≡ length (synthesised d n x)) × (new ≡ front (encodeRows (map written (synthesised d n x))) old)) e
-    (let rows = reduce d n (start v) .rows in (omega (arith, h .counted, length-map rows (undo d)), list-written h l f))
+list-reduced {d} n u h l f = let rows = reduce d n (start u) .rows in (omega (arith, h .counted, length-map rows (undo d)), list-written h l f)
 
 -- ---- the list is read again
 module _ {d n : ℕ} {t : List Pauli} (one : 1 < d) (formed : WellFormed d n t) (sound : Sound d n t) where

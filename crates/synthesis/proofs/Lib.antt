@@ -13,4 +13,3 @@ pub mod SecondColumn
 pub mod Stages
 pub mod Steps
 pub mod Theorem
-pub mod Views

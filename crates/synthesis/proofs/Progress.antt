@@ -1,6 +1,6 @@
 -- Laws of steps that code does: one step after another, a step that is skipped, a row put behind, a loop of steps. Assumes nothing.
 use mathlib.Core.Path.{_≡_, refl, sym, _∙_, ap, subst}
-use mathlib.Core.Bool.{true, cond}
+use mathlib.Core.Bool.{cond}
 use mathlib.Core.List.{List, [], _∷_, _++_, map, append-assoc, reverse-cons}
 use mathlib.Core.Logic.{_≢_}
 use Prim.Native.Nat.{ℕ, suc, _+_, _*_, _-_, _≤_}
@@ -11,15 +11,14 @@ use lib.Seq.{sets}
 use lib.Dec.{eqb}
 use Rattle.arith.specs.Bytes.{bytesOf}
 use Rattle.arith.proofs.Bytes.{write-more}
-use Rattle.arith.proofs.Cases.{eqb-case}
+use Rattle.arith.proofs.Cases.{eqb-case, by-eq}
 use Rattle.pauli.specs.Pauli.{Pauli}
 use Rattle.gates.specs.Row.{Row, Legal, apply, undo}
-use Rattle.gates.specs.Written.{WrittenRow, written, meant, legalRow, rowNumbers, listNumbers, encodeRows}
+use Rattle.gates.specs.Written.{WrittenRow, written, meant, rowNumbers, listNumbers, encodeRows}
 use Rattle.gates.proofs.Written.{legal-written, meant-of-written, listNumbers-length}
 use Rattle.tableau.specs.Tableau.{upFrom}
 use Rattle.synthesis.specs.Reduce.{State, put, each, start}
-use Rattle.synthesis.specs.View.{tableView}
-use Rattle.synthesis.specs.Progress.{undoRows, withPower, Holds, Does}
+use Rattle.synthesis.specs.Progress.{undoRows, withPower, Holds, Does, Says}
 use Rattle.synthesis.proofs.Steps.{each-more}
 
 -- ---- rows in bytes
@@ -66,20 +65,15 @@ unfolding undoRows
 undo-length d rows = length-reverse (map (λ r. written (undo d r)) rows) ∙ length-map rows (λ r. written (undo d r))
 
 -- ---- steps
-module _ {d n : ℕ} {t : List (List ℕ)} {out : List ℕ} {count : ℕ} where
+module _ {d : ℕ} {t : List Pauli} {out : List ℕ} {count : ℕ} where
   -- the start: nothing done yet
-  holds-start : Holds d n count out t out count (start (tableView n t))
+  holds-start : Holds d count out t out count (start t)
   unfolding undoRows listNumbers bytesOf
   holds-start = record { tableau = refl; counted = sym (add-zero count); listed = refl }
 
-  -- a power that does nothing is skipped
-  pub does-skip : {k m : ℕ} (g : State → State) → k ≡ m → Does d n 1 (λ s. cond (eqb k m) s (g s)) t out count t out count
-  does-skip {k} {m} g e = eqb-case (λ b. Does d n 1 (λ s. cond b s (g s)) t out count t out count) k m
-      (λ q. record { does = λ first old s h. h; within = omega arith }) (λ ne. absurd (ne e))
-
   -- a row x put behind every column, and its undo row, written as w, behind the others
-  pub does-put : {t′ : List (List ℕ)} {out′ : List ℕ} {count′ : ℕ} {w : WrittenRow} (x : Row) → tableView n t′ ≡ map (apply d x) (tableView n t)
-      → written (undo d x) ≡ w → out′ ≡ sets out (8 * count) (encodeRows (w ∷ [])) → count′ ≡ count + 1 → Does d n 1 (put d x) t out count t′ out′ count′
+  pub does-put : {t′ : List Pauli} {out′ : List ℕ} {count′ : ℕ} {w : WrittenRow} (x : Row) → t′ ≡ map (apply d x) t
+      → written (undo d x) ≡ w → out′ ≡ sets out (8 * count) (encodeRows (w ∷ [])) → count′ ≡ count + 1 → Does d 1 (put d x) t out count t′ out′ count′
   does-put {t′} {out′} {count′} {w} x e u f g = record {
     does = λ first old s h. record {
       tableau = e ∙ ap (map (apply d x)) (h .tableau);
@@ -91,41 +85,76 @@ module _ {d n : ℕ} {t : List (List ℕ)} {out : List ℕ} {count : ℕ} where
     within = omega arith;
   }
 
-module _ {d n : ℕ} {t t′ : List (List ℕ)} {out out′ : List ℕ} {count count′ : ℕ} where
-  pub does-more : {k l : ℕ} {f : State → State} → k ≤ l → Does d n k f t out count t′ out′ count′ → Does d n l f t out count t′ out′ count′
+module _ {d : ℕ} {t t′ : List Pauli} {out out′ : List ℕ} {count count′ : ℕ} where
+  pub does-more : {k l : ℕ} {f : State → State} → k ≤ l → Does d k f t out count t′ out′ count′ → Does d l f t out count t′ out′ count′
   does-more h a = record { does = a .does; within = omega (arith, a .within) }
 
   -- a step that is the same at the tableau that the code holds
-  pub does-as : {k : ℕ} {f : State → State} (g : State → State) → ((s : State) → tableView n t ≡ s .tableau → f s ≡ g s) → Does d n k f t out count t′ out′ count′ → Does d n k g t out count t′ out′ count′
+  pub does-as : {k : ℕ} {f : State → State} (g : State → State) → ((s : State) → t ≡ s .tableau → f s ≡ g s) → Does d k f t out count t′ out′ count′ → Does d k g t out count t′ out′ count′
   does-as {k} {f} g e a = record {
-    does = λ first old s h. subst (λ (z : State). Holds d n first old t′ out′ count′ z) (e s (h .tableau)) (a .does first old s h);
+    does = λ first old s h. subst (λ (z : State). Holds d first old t′ out′ count′ z) (e s (h .tableau)) (a .does first old s h);
     within = a .within;
   }
 
-  pub does-kept : {k m : ℕ} {g : State → State} → k ≢ m → Does d n 1 g t out count t′ out′ count′ → Does d n 1 (λ s. cond (eqb k m) s (g s)) t out count t′ out′ count′
-  does-kept {k} {m} {g} ne a = eqb-case (λ b. Does d n 1 (λ s. cond b s (g s)) t out count t′ out′ count′) k m (λ e. absurd (ne e)) (λ o. a)
-
   -- the state at the end, from the start
-  pub does-from : {k : ℕ} {f : State → State} → Does d n k f t out count t′ out′ count′ → Holds d n count out t′ out′ count′ (f (start (tableView n t)))
-  does-from a = a .does count out (start (tableView n t)) holds-start
+  pub does-from : {k : ℕ} {f : State → State} → Does d k f t out count t′ out′ count′ → Holds d count out t′ out′ count′ (f (start t))
+  does-from a = a .does count out (start t) holds-start
 
-  pub does-then : {k l : ℕ} {f g : State → State} {t″ : List (List ℕ)} {out″ : List ℕ} {count″ : ℕ}
-      → Does d n k f t out count t′ out′ count′ → Does d n l g t′ out′ count′ t″ out″ count″ → Does d n (k + l) (λ s. g (f s)) t out count t″ out″ count″
+  pub does-then : {k l : ℕ} {f g : State → State} {t″ : List Pauli} {out″ : List ℕ} {count″ : ℕ}
+      → Does d k f t out count t′ out′ count′ → Does d l g t′ out′ count′ t″ out″ count″ → Does d (k + l) (λ s. g (f s)) t out count t″ out″ count″
   does-then {f = f} a b = record { does = λ first old s h. b .does first old (f s) (a .does first old s h); within = omega (arith, a .within, b .within) }
 
--- ---- a row of the reduction, as it is written: what `place` asks of it, and what that does
-pub place-asks : (d n : ℕ) {w : WrittenRow} (x : Row) (back : ℕ) → w ≡ written x → Legal d n x → written (undo d x) ≡ withPower (written x) back
-    → (legalRow d n w ≡ true) × (written (undo d (meant w)) ≡ withPower w back)
-place-asks d n x back e l u = rw e (legal-written d n x l, ap (λ (y : Row). written (undo d y)) (meant-of-written x) ∙ u)
+-- ---- the row that a step puts behind
+-- none: at a power of 0 nothing is done
+pub says-does-none : {d n : ℕ} {f : State → State} {t : List Pauli} {out : List ℕ} {count back : ℕ} {w : WrittenRow} → Says d n f t w back → w .power ≡ 0 → Does d 1 f t out count t out count
+says-does-none {d} {t = t} {out = out} {count = count} a e = record { does = λ first old s h. subst (λ (z : State). Holds d first old t out count z) (a .idle e s (h .tableau)) h; within = omega arith }
 
-pub place-does : {d n : ℕ} {t t′ : List (List ℕ)} {out out′ : List ℕ} {count count′ : ℕ} {w : WrittenRow} (x : Row) → w ≡ written x
-    → Does d n 1 (put d (meant w)) t out count t′ out′ count′ → Does d n 1 (put d x) t out count t′ out′ count′
-place-does {d} {n} {t} {t′} {out} {out′} {count} {count′} x e a = subst (λ (y : Row). Does d n 1 (put d y) t out count t′ out′ count′) (ap meant e ∙ meant-of-written x) a
+pub says-does : {d n : ℕ} {f : State → State} {t t′ : List Pauli} {out out′ : List ℕ} {count count′ back : ℕ} {w : WrittenRow} → Says d n f t w back → w .power ≢ 0
+    → Does d 1 (put d (meant w)) t out count t′ out′ count′ → Does d 1 f t out count t′ out′ count′
+says-does {f = f} a ne b = does-as f (λ s h. a .puts ne s h) b
 
 -- a step whose power is read off the tableau
-pub does-power : {d n m : ℕ} {t t′ : List (List ℕ)} {out out′ : List ℕ} {count count′ k : ℕ} (f : ℕ → State → State) (power : List Pauli → ℕ) → k ≡ power (tableView n t)
-    → Does d n m (f k) t out count t′ out′ count′ → Does d n m (λ s. f (power (s .tableau)) s) t out count t′ out′ count′
-does-power f power e a = does-as (λ s. f (power (s .tableau)) s) (λ s h. ap (λ (x : ℕ). f x s) (e ∙ ap power h)) a
+pub says-power : {d n back k : ℕ} {t : List Pauli} {w : WrittenRow} (f : ℕ → State → State) (power : List Pauli → ℕ) → k ≡ power t → Says d n (f k) t w back → Says d n (λ s. f (power (s .tableau)) s) t w back
+says-power f power e a = record {
+  idle = λ z s h. a .idle z s h ∙ ap (λ (x : ℕ). f x s) (e ∙ ap power h);
+  legal = a .legal;
+  undone = a .undone;
+  puts = λ ne s h. a .puts ne s h ∙ ap (λ (x : ℕ). f x s) (e ∙ ap power h);
+}
+
+-- the row x with power k, where k does something unless it is `none`
+pub says-row : (d n : ℕ) {back none k : ℕ} {t : List Pauli} {w : WrittenRow} (x : Row) → w ≡ written x → k ≢ none → w .power ≢ 0 → Legal d n x → written (undo d x) ≡ withPower (written x) back
+    → Says d n (λ s. cond (eqb k none) s (put d x s)) t w back
+says-row d n {none = none} {k = k} {w = w} x e ne some l u = record {
+  idle = λ z. absurd (some z);
+  legal = λ o. rw e (legal-written d n x l);
+  undone = λ o. rw e (ap (λ (y : Row). written (undo d y)) (meant-of-written x) ∙ u);
+  puts = λ o s h. eqb-case (λ b. put d (meant w) s ≡ cond b s (put d x s)) k none (λ q. absurd (ne q)) (λ q. ap (λ (y : Row). put d y s) (ap meant e ∙ meant-of-written x));
+}
+
+pub says-none : {d n back none k : ℕ} {t : List Pauli} {w : WrittenRow} (g : State → State) → k ≡ none → w .power ≡ 0 → Says d n (λ s. cond (eqb k none) s (g s)) t w back
+says-none {none = none} {k = k} g e z = record {
+  idle = λ o s h. eqb-case (λ b. s ≡ cond b s (g s)) k none (λ q. refl) (λ ne. absurd (ne e));
+  legal = λ ne. absurd (ne z);
+  undone = λ ne. absurd (ne z);
+  puts = λ ne. absurd (ne z);
+}
+
+-- a kind whose power 0 does nothing
+pub says-unless : (d n : ℕ) {back k : ℕ} {t : List Pauli} {w : WrittenRow} (x : Row) → w ≡ written x → written x .power ≡ k → (k ≢ 0 → Legal d n x) → (k ≢ 0 → written (undo d x) ≡ withPower (written x) back)
+    → Says d n (λ s. cond (eqb k 0) s (put d x s)) t w back
+says-unless d n {k = k} x e p l u = by-eq k 0
+    (λ z. says-none (put d x) z (ap (λ (v : WrittenRow). v .power) e ∙ p ∙ z))
+    (λ ne. says-row d n x e ne (λ z. ne (sym (ap (λ (v : WrittenRow). v .power) e ∙ p) ∙ z)) (l ne) (u ne))
+
+-- a row that is put behind whatever the tableau is
+pub says-always : (d n : ℕ) {back : ℕ} {t : List Pauli} {w : WrittenRow} (x : Row) → w ≡ written x → w .power ≢ 0 → Legal d n x → written (undo d x) ≡ withPower (written x) back → Says d n (put d x) t w back
+says-always d n x e some l u = record {
+  idle = λ z. absurd (some z);
+  legal = λ o. rw e (legal-written d n x l);
+  undone = λ o. rw e (ap (λ (y : Row). written (undo d y)) (meant-of-written x) ∙ u);
+  puts = λ o s h. ap (λ (y : Row). put d y s) (ap meant e ∙ meant-of-written x);
+}
 
 -- ---- loops: the steps for the numbers from k on, before the turn of j
 abbrev pub upTo : (ℕ → State → State) → ℕ → ℕ → State → State
@@ -140,13 +169,13 @@ up-more f k j s h =
     let q : j ≡ k + (j - k) = omega arith in
     ap (λ (x : ℕ). f x (upTo f k j s)) q ∙ sym (each-more f k (j - k) s) ∙ ap (λ (m : ℕ). each f (upFrom k m) s) (sym e)
 
-module _ {d n : ℕ} {t : List (List ℕ)} {out : List ℕ} {count : ℕ} where
-  pub loop-none : (f : ℕ → State → State) (a k : ℕ) → Does d n a (upTo f k k) t out count t out count
-  loop-none f a k = record { does = λ first old s h. subst (λ (z : State). Holds d n first old t out count z) (up-none f k s) h; within = omega arith }
+module _ {d : ℕ} {t : List Pauli} {out : List ℕ} {count : ℕ} where
+  pub loop-none : (f : ℕ → State → State) (a k : ℕ) → Does d a (upTo f k k) t out count t out count
+  loop-none f a k = record { does = λ first old s h. subst (λ (z : State). Holds d first old t out count z) (up-none f k s) h; within = omega arith }
 
-  pub loop-more : {t′ t″ : List (List ℕ)} {out′ out″ : List ℕ} {count′ count″ m a b : ℕ} (f : ℕ → State → State) (k j : ℕ) → k ≤ j → count″ ≤ count + b
-      → Does d n a (upTo f k j) t out count t′ out′ count′ → Does d n m (f j) t′ out′ count′ t″ out″ count″ → Does d n b (upTo f k (j + 1)) t out count t″ out″ count″
+  pub loop-more : {t′ t″ : List Pauli} {out′ out″ : List ℕ} {count′ count″ m a b : ℕ} (f : ℕ → State → State) (k j : ℕ) → k ≤ j → count″ ≤ count + b
+      → Does d a (upTo f k j) t out count t′ out′ count′ → Does d m (f j) t′ out′ count′ t″ out″ count″ → Does d b (upTo f k (j + 1)) t out count t″ out″ count″
   loop-more {t″ = t″} {out″ = out″} {count″ = count″} f k j h l x y = record {
-    does = λ first old s z. subst (λ (u : State). Holds d n first old t″ out″ count″ u) (up-more f k j s h) (y .does first old (upTo f k j s) (x .does first old s z));
+    does = λ first old s z. subst (λ (u : State). Holds d first old t″ out″ count″ u) (up-more f k j s h) (y .does first old (upTo f k j s) (x .does first old s z));
     within = l;
   }

@@ -35,11 +35,6 @@ malformedOf d n bytes room =
 abbrev pub synthesisRefusal : ℕ → ℕ → List ℕ → ℕ → ℕ
 synthesisRefusal d n bytes room = orElse (malformedOf d n bytes room) (soundnessOf d n (decodeTableau n bytes))
 
--- those after 1 and 2
-abbrev pub tableauRefusal : ℕ → ℕ → List ℕ → ℕ → ℕ
-tableauRefusal d n bytes room =
-    orElse (sizeOf (tableauBytes n) (length bytes)) (orElse (roomOf (40 * (n * n) + 48 * n) room) (orElse (tableauRangeOf d (decodeTableau n bytes)) (soundnessOf d n (decodeTableau n bytes))))
-
 -- the list handed back: from the output's first byte on, 8 bytes a row, as many rows as the count says
 abbrev pub handed : ℕ → List ℕ → List ℕ
 handed count out = take (8 * count) out

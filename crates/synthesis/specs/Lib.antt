@@ -2,4 +2,3 @@ pub mod Demand3
 pub mod Progress
 pub mod Reduce
 pub mod Turns
-pub mod View

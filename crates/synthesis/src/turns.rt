@@ -1,20 +1,25 @@
-// The turns of a stage's loops, for a later qudit j each, and the steps between the loops; q is the stage's qudit.
-use crate::put::put_a;
-use crate::put::put_m;
-use crate::put::put_s;
-use crate::table::v_at;
-use crate::table::w_at;
+// The turns of the reduction: which row each puts behind next.
 use arith::residue::Residue;
-ghost use Prim.Native.Nat.{suc, _+_, _*_, _-_, _≤_, _<_};
-ghost use lib.ListN.{length};
+use gates::Row;
+use tableau::table::phase_at;
+use tableau::table::v_at;
+use tableau::table::w_at;
+ghost use mathlib.Core.Path.{_≡_};
+ghost use mathlib.Core.Logic.{_≢_};
+ghost use mathlib.Core.List.{List};
+ghost use Prim.Native.Nat.{ℕ, _%_, _≤_, _<_};
 ghost use Rattle.arith.specs.Units.{Unit};
 ghost use Rattle.arith.specs.Refusals.{Dimension};
-ghost use Rattle.synthesis.specs.Reduce.{start, wAt, minus, each, later, gatherInQudit, gatherQudit, clearW, clearV, clearPartnerW, clearPartnerV, pivot, shear, partnerShear};
-ghost use Rattle.synthesis.specs.Turns.{turnOf};
-ghost use Rattle.synthesis.specs.View.{tableView};
-ghost use Rattle.synthesis.specs.Progress.{Does};
+ghost use Rattle.pauli.specs.Pauli.{Pauli};
+ghost use Rattle.gates.specs.Row.{F};
+ghost use Rattle.gates.specs.Written.{onOne};
+ghost use Rattle.gates.specs.View.{viewRow};
+ghost use Rattle.tableau.specs.View.{tableView};
+ghost use Rattle.synthesis.specs.Reduce.{put, putS, putA, putM, putX, putZ};
+ghost use Rattle.synthesis.specs.Progress.{Says};
+ghost use Rattle.synthesis.specs.Turns.{turnOf, Asks};
 
-// The loops of a stage.
+// The turns: those of a later qudit j, those of the stage's qudit q, and those of its phases.
 pub enum Turn {
     GatherInQudit,
     GatherQudit,
@@ -22,221 +27,134 @@ pub enum Turn {
     ClearV,
     ClearPartnerW,
     ClearPartnerV,
+    Pivot,
+    Shear,
+    PartnerShear,
+    FourierOnce,
+    FourierBack,
+    PhaseZ,
+    PhaseX,
 }
 
-// S on j, after which gcd(w, d) divides v there, in column q.
-pub fn gather_in_qudit(
-    t: [[u16; 33]; 32],
-    j: usize,
-    q: usize,
-    d: u16,
-    n: usize,
-    out: &mut [u8],
-    count: &mut usize,
-) -> [[u16; 33]; 32]
-    requires { ⌜ Dimension d × (n ≤ 16) ⌝ }
-    requires { ⌜ (q < n) × (j < n) ⌝ }
-    requires { ⌜ 8 * (now count + 1) ≤ length (now out) ⌝ }
-    ensures { λ r. ⌜ Does d n 1 (gatherInQudit d n q j) t (now (out .entry)) (now (count .entry)) r (now (out .exit)) (now (count .exit)) ⌝ }
+// A row and the power of its undo row; the power 0 says that there is no row.
+pub struct Next {
+    pub row: Row,
+    pub back: u16,
+}
+
+// A number reduced modulo d.
+fn within(x: Residue, d: u16) -> Residue
+    requires { ⌜ Dimension d ⌝ }
+    ensures { λ r. ⌜ r .0 ≡ x .0 % d ⌝ }
 {
-    let m = arith::divisor::least_multiplier(w_at(t, q, j), v_at(t, q, j), d);
-    put_s(t, j, m, d, n, out, count)
+    Residue::near(x.0 as u64, d)
 }
 
-// A from q to j, after which gcd(w, d) at q divides the entries at j, in column q.
-pub fn gather_qudit(
-    t: [[u16; 33]; 32],
-    j: usize,
-    q: usize,
-    d: u16,
-    n: usize,
-    out: &mut [u8],
-    count: &mut usize,
-) -> [[u16; 33]; 32]
-    requires { ⌜ Dimension d × (n ≤ 16) ⌝ }
-    requires { ⌜ (q < j) × (j < n) ⌝ }
-    requires { ⌜ 8 * (now count + 1) ≤ length (now out) ⌝ }
-    ensures { λ r. ⌜ Does d n 1 (gatherQudit d n q j) t (now (out .entry)) (now (count .entry)) r (now (out .exit)) (now (count .exit)) ⌝ }
+// A row on qudit i, counted from 0.
+fn on_one(kind: u16, i: usize, k: u16, back: u16) -> Next
+    requires { ⌜ i < 16 ⌝ }
+    ensures { λ r. ⌜ (viewRow (r .row) ≡ onOne kind i k) × (r .back ≡ back) ⌝ }
 {
-    let m = arith::divisor::least_multiplier(w_at(t, q, q), w_at(t, q, j), d);
-    put_a(t, q, j, m.negative(d), d, n, out, count)
+    Next {
+        row: Row {
+            kind: kind,
+            first: (i as u16) + 1,
+            second: 0,
+            power: k,
+        },
+        back: back,
+    }
 }
 
-// A from j to q, after which w at j is 0 in column q.
-pub fn clear_w(
-    t: [[u16; 33]; 32],
-    j: usize,
-    q: usize,
-    d: u16,
-    n: usize,
-    out: &mut [u8],
-    count: &mut usize,
-) -> [[u16; 33]; 32]
-    requires { ⌜ Dimension d × (n ≤ 16) ⌝ }
-    requires { ⌜ (q < j) × (j < n) ⌝ }
-    requires { ⌜ 8 * (now count + 1) ≤ length (now out) ⌝ }
-    ensures { λ r. ⌜ Does d n 1 (clearW d n q j) t (now (out .entry)) (now (count .entry)) r (now (out .exit)) (now (count .exit)) ⌝ }
+// F on qudit i.
+fn by_f(i: usize, k: u16) -> Next
+    requires { ⌜ (i < 16) × ((1 ≤ k) × (k ≤ 3)) ⌝ }
+    ensures { λ r. ⌜ ((d n : ℕ) (t : List Pauli) → i < n → Says d n (put d (F i k)) t (viewRow (r .row)) (r .back)) ⌝ }
 {
-    let w = w_at(t, q, j);
-    put_a(t, j, q, w.negative(d), d, n, out, count)
+    on_one(1, i, k, 4 - k)
 }
 
-// A from q to j, after which v at j is 0 in column q.
-pub fn clear_v(
-    t: [[u16; 33]; 32],
-    j: usize,
-    q: usize,
-    d: u16,
-    n: usize,
-    out: &mut [u8],
-    count: &mut usize,
-) -> [[u16; 33]; 32]
-    requires { ⌜ Dimension d × (n ≤ 16) ⌝ }
-    requires { ⌜ (q < j) × (j < n) ⌝ }
-    requires { ⌜ 8 * (now count + 1) ≤ length (now out) ⌝ }
-    ensures { λ r. ⌜ Does d n 1 (clearV d n q j) t (now (out .entry)) (now (count .entry)) r (now (out .exit)) (now (count .exit)) ⌝ }
+// S on qudit i.
+fn by_s(i: usize, k: Residue, d: u16) -> Next
+    requires { ⌜ Dimension d × ((i < 16) × (k .0 < d)) ⌝ }
+    ensures { λ r. ⌜ ((n : ℕ) (t : List Pauli) → i < n → Says d n (putS d i (k .0)) t (viewRow (r .row)) (r .back)) ⌝ }
 {
-    let v = v_at(t, q, j);
-    put_a(t, q, j, v.negative(d), d, n, out, count)
+    on_one(2, i, k.0, 2 * d - k.0)
 }
 
-// A from j to q, after which w at j is 0 in column n + q.
-pub fn clear_partner_w(
-    t: [[u16; 33]; 32],
-    j: usize,
-    q: usize,
-    d: u16,
-    n: usize,
-    out: &mut [u8],
-    count: &mut usize,
-) -> [[u16; 33]; 32]
-    requires { ⌜ Dimension d × (n ≤ 16) ⌝ }
-    requires { ⌜ (q < j) × (j < n) ⌝ }
-    requires { ⌜ 8 * (now count + 1) ≤ length (now out) ⌝ }
-    ensures { λ r. ⌜ Does d n 1 (clearPartnerW d n q j) t (now (out .entry)) (now (count .entry)) r (now (out .exit)) (now (count .exit)) ⌝ }
+// A from qudit i to qudit j.
+fn by_a(i: usize, j: usize, k: Residue, d: u16) -> Next
+    requires { ⌜ Dimension d × ((i < 16) × ((j < 16) × (k .0 < d))) ⌝ }
+    ensures { λ r. ⌜ ((n : ℕ) (t : List Pauli) → i < n → j < n → i ≢ j → Says d n (putA d i j (k .0)) t (viewRow (r .row)) (r .back)) ⌝ }
 {
-    let w = w_at(t, n + q, j);
-    put_a(t, j, q, Residue::reduced(w.0 as u64, d), d, n, out, count)
+    Next {
+        row: Row {
+            kind: 3,
+            first: (i as u16) + 1,
+            second: (j as u16) + 1,
+            power: k.0,
+        },
+        back: d - k.0,
+    }
 }
 
-// A from q to j, after which v at j is 0 in column n + q.
-pub fn clear_partner_v(
-    t: [[u16; 33]; 32],
-    j: usize,
-    q: usize,
-    d: u16,
-    n: usize,
-    out: &mut [u8],
-    count: &mut usize,
-) -> [[u16; 33]; 32]
-    requires { ⌜ Dimension d × (n ≤ 16) ⌝ }
-    requires { ⌜ (q < j) × (j < n) ⌝ }
-    requires { ⌜ 8 * (now count + 1) ≤ length (now out) ⌝ }
-    ensures { λ r. ⌜ Does d n 1 (clearPartnerV d n q j) t (now (out .entry)) (now (count .entry)) r (now (out .exit)) (now (count .exit)) ⌝ }
+// M on qudit i.
+fn by_m(i: usize, k: Residue, d: u16) -> Next
+    requires { ⌜ Dimension d × ((i < 16) × ((k .0 < d) × Unit d (k .0))) ⌝ }
+    ensures { λ r. ⌜ ((n : ℕ) (t : List Pauli) → i < n → Says d n (putM d i (k .0)) t (viewRow (r .row)) (r .back)) ⌝ }
 {
-    let v = v_at(t, n + q, j);
-    put_a(t, q, j, Residue::reduced(v.0 as u64, d), d, n, out, count)
+    if k.0 == 1 {
+        return on_one(4, i, 0, 0);
+    }
+    let back = arith::divisor::inverse(k, d);
+    on_one(4, i, k.0, back.0)
 }
 
-// M on q, after which w at q is −1 in column q.
-pub fn pivot(
-    t: [[u16; 33]; 32],
-    q: usize,
-    d: u16,
-    n: usize,
-    out: &mut [u8],
-    count: &mut usize,
-) -> [[u16; 33]; 32]
-    requires { ⌜ Dimension d × (n ≤ 16) ⌝ }
-    requires { ⌜ (q < n) × Unit d (minus d (wAt n (start (tableView n t)) q q)) ⌝ }
-    requires { ⌜ 8 * (now count + 1) ≤ length (now out) ⌝ }
-    ensures { λ r. ⌜ Does d n 1 (pivot d n q) t (now (out .entry)) (now (count .entry)) r (now (out .exit)) (now (count .exit)) ⌝ }
+// X on qudit i.
+fn by_x(i: usize, k: Residue, d: u16) -> Next
+    requires { ⌜ Dimension d × ((i < 16) × (k .0 < d)) ⌝ }
+    ensures { λ r. ⌜ ((n : ℕ) (t : List Pauli) → i < n → Says d n (putX d i (k .0)) t (viewRow (r .row)) (r .back)) ⌝ }
 {
-    let w = w_at(t, q, q);
-    put_m(t, q, w.negative(d), d, n, out, count)
+    on_one(5, i, k.0, d - k.0)
 }
 
-// S on q, after which w at q is 0 in column q.
-pub fn shear(
-    t: [[u16; 33]; 32],
-    q: usize,
-    d: u16,
-    n: usize,
-    out: &mut [u8],
-    count: &mut usize,
-) -> [[u16; 33]; 32]
-    requires { ⌜ Dimension d × (n ≤ 16) ⌝ }
-    requires { ⌜ q < n ⌝ }
-    requires { ⌜ 8 * (now count + 1) ≤ length (now out) ⌝ }
-    ensures { λ r. ⌜ Does d n 1 (shear d n q) t (now (out .entry)) (now (count .entry)) r (now (out .exit)) (now (count .exit)) ⌝ }
+// Z on qudit i.
+fn by_z(i: usize, k: Residue, d: u16) -> Next
+    requires { ⌜ Dimension d × ((i < 16) × (k .0 < d)) ⌝ }
+    ensures { λ r. ⌜ ((n : ℕ) (t : List Pauli) → i < n → Says d n (putZ d i (k .0)) t (viewRow (r .row)) (r .back)) ⌝ }
 {
-    let w = w_at(t, q, q);
-    put_s(t, q, w.negative(d), d, n, out, count)
+    on_one(6, i, k.0, d - k.0)
 }
 
-// S on q, after which w at q is 0 in column n + q.
-pub fn partner_shear(
-    t: [[u16; 33]; 32],
-    q: usize,
-    d: u16,
-    n: usize,
-    out: &mut [u8],
-    count: &mut usize,
-) -> [[u16; 33]; 32]
+// The row that a turn puts behind next.
+pub fn next_row(t: &[[u16; 33]; 32], which: Turn, j: usize, q: usize, d: u16, n: usize) -> Next
     requires { ⌜ Dimension d × (n ≤ 16) ⌝ }
-    requires { ⌜ q < n ⌝ }
-    requires { ⌜ 8 * (now count + 1) ≤ length (now out) ⌝ }
-    ensures { λ r. ⌜ Does d n 1 (partnerShear d n q) t (now (out .entry)) (now (count .entry)) r (now (out .exit)) (now (count .exit)) ⌝ }
-{
-    let w = w_at(t, n + q, q);
-    put_s(t, q, Residue::reduced(w.0 as u64, d), d, n, out, count)
-}
-
-// One turn.
-pub fn one_turn(
-    t: [[u16; 33]; 32],
-    which: Turn,
-    j: usize,
-    q: usize,
-    d: u16,
-    n: usize,
-    out: &mut [u8],
-    count: &mut usize,
-) -> [[u16; 33]; 32]
-    requires { ⌜ Dimension d × (n ≤ 16) ⌝ }
-    requires { ⌜ (q < j) × (j < n) ⌝ }
-    requires { ⌜ 8 * (now count + 1) ≤ length (now out) ⌝ }
-    ensures { λ r. ⌜ Does d n 1 (turnOf which d n q j) t (now (out .entry)) (now (count .entry)) r (now (out .exit)) (now (count .exit)) ⌝ }
+    requires { ⌜ (q ≤ j) × (j < n) ⌝ }
+    requires { ⌜ Asks which d n q j (tableView n (now t)) ⌝ }
+    ensures { λ r. ⌜ Says d n (turnOf which d n q j) (tableView n (now (t .entry))) (viewRow (r .row)) (r .back) ⌝ }
 {
     match which {
-        Turn::GatherInQudit => gather_in_qudit(t, j, q, d, n, out, count),
-        Turn::GatherQudit => gather_qudit(t, j, q, d, n, out, count),
-        Turn::ClearW => clear_w(t, j, q, d, n, out, count),
-        Turn::ClearV => clear_v(t, j, q, d, n, out, count),
-        Turn::ClearPartnerW => clear_partner_w(t, j, q, d, n, out, count),
-        Turn::ClearPartnerV => clear_partner_v(t, j, q, d, n, out, count),
+        Turn::GatherInQudit => by_s(
+            j,
+            arith::divisor::least_multiplier(w_at(t, q, j), v_at(t, q, j), d),
+            d,
+        ),
+        Turn::GatherQudit => by_a(
+            q,
+            j,
+            arith::divisor::least_multiplier(w_at(t, q, q), w_at(t, q, j), d).negative(d),
+            d,
+        ),
+        Turn::ClearW => by_a(j, q, w_at(t, q, j).negative(d), d),
+        Turn::ClearV => by_a(q, j, v_at(t, q, j).negative(d), d),
+        Turn::ClearPartnerW => by_a(j, q, within(w_at(t, n + q, j), d), d),
+        Turn::ClearPartnerV => by_a(q, j, within(v_at(t, n + q, j), d), d),
+        Turn::Pivot => by_m(q, w_at(t, q, q).negative(d), d),
+        Turn::Shear => by_s(q, w_at(t, q, q).negative(d), d),
+        Turn::PartnerShear => by_s(q, within(w_at(t, n + q, q), d), d),
+        Turn::FourierOnce => by_f(q, 1),
+        Turn::FourierBack => by_f(q, 3),
+        Turn::PhaseZ => by_z(q, Residue(phase_at(t, q) / 2).negative(d), d),
+        Turn::PhaseX => by_x(q, within(Residue(phase_at(t, n + q) / 2), d), d),
     }
-}
-
-// A turn for every later qudit.
-pub fn each_later(
-    t: [[u16; 33]; 32],
-    which: Turn,
-    q: usize,
-    d: u16,
-    n: usize,
-    out: &mut [u8],
-    count: &mut usize,
-) -> [[u16; 33]; 32]
-    requires { ⌜ Dimension d × (n ≤ 16) ⌝ }
-    requires { ⌜ q < n ⌝ }
-    requires { ⌜ 8 * (now count + (n - suc q)) ≤ length (now out) ⌝ }
-    ensures { λ r. ⌜ Does d n (n - suc q) (each (turnOf which d n q) (later d n q)) t (now (out .entry)) (now (count .entry)) r (now (out .exit)) (now (count .exit)) ⌝ }
-{
-    let mut s = t;
-    for j in q + 1..n {
-        let next = one_turn(s, which, j, q, d, n, out, count);
-        s = next;
-    }
-    s
 }

@@ -34,6 +34,10 @@ pub decode-length : (n : ℕ) (b : List ℕ) → length (decodeTableau n b) ≡ 
 unfolding decodeTableau
 decode-length n b = tab-length (λ j. columnAt n j b) (2 * n)
 
+pub decode-table : (n : ℕ) (b : List ℕ) → decodeTableau n b ≡ tab (λ j. columnAt n j b) (2 * n)
+unfolding decodeTableau
+decode-table n b = refl
+
 pub decode-column : (n j : ℕ) (b : List ℕ) → j < 2 * n → column n (decodeTableau n b) j ≡ columnAt n j b
 unfolding decodeTableau
 decode-column n j b h = tab-at (λ i. columnAt n i b) (2 * n) j (phaseOnly n 0) h
@@ -51,7 +55,7 @@ unfolding decodeTableau
 decode-formed {n = n} b e = record { columns = decode-length n b; ranges = ranges-good (λ j. j * (1 + 2 * n)) b (2 * n) e }
 
 -- ---- the numbers of columns
-numbers-length : {d n : ℕ} {p : Pauli} → InRange d n p → length (numbersOf p) ≡ 1 + 2 * n
+pub numbers-length : {d n : ℕ} {p : Pauli} → InRange d n p → length (numbersOf p) ≡ 1 + 2 * n
 numbers-length r = omega (arith, entries-length r)
 
 all-length : {d n : ℕ} {t : List Pauli} → AllInRange d n t → length (tableauNumbers t) ≡ length t * (1 + 2 * n)
@@ -90,10 +94,11 @@ decode-encode {n = n} {t} rest pos g =
     ∙ ap (tab (column n t)) (sym (g .columns)) ∙ tab-list (phaseOnly n 0) t
 
 -- ---- writing
-tab-range : {d n : ℕ} (g : ℕ → Pauli) (m : ℕ) → ((i : ℕ) → InRange d n (g i)) → AllInRange d n (tab g m)
+-- columns of 1 + 2n numbers each
+columns-length : (n : ℕ) (g : ℕ → Pauli) (m : ℕ) → ((i : ℕ) → length (numbersOf (g i)) ≡ 1 + 2 * n) → length (tableauNumbers (tab g m)) ≡ m * (1 + 2 * n)
 unfolding tab
-tab-range g zero h = none
-tab-range g (suc m) h = more (h 0) (tab-range (λ i. g (suc i)) m (λ i. h (suc i)))
+columns-length n g zero h = omega arith
+columns-length n g (suc m) h = length-append (numbersOf (g 0)) (tableauNumbers (tab (λ i. g (suc i)) m)) ∙ omega (arith, h 0, columns-length n (λ i. g (suc i)) m (λ i. h (suc i)))
 
 -- what a loop that writes the columns g 0, g 1, .. has made of the output after j of them
 pub record ColumnsWritten (g : ℕ → Pauli) (old new : List ℕ) (j : ℕ) : Type 0 where
@@ -106,10 +111,10 @@ unfolding encodeTableau bytesOf
 columns-none g old = record { size = refl; bytes = rw (tab-none g) refl }
 
 -- after column j
-pub columns-next : {d n : ℕ} (g : ℕ → Pauli) {old new next : List ℕ} (j : ℕ) {q : Pauli} → ((i : ℕ) → InRange d n (g i)) → q ≡ g j
+pub columns-next : (n : ℕ) (g : ℕ → Pauli) {old new next : List ℕ} (j : ℕ) {q : Pauli} → ((i : ℕ) → length (numbersOf (g i)) ≡ 1 + 2 * n) → q ≡ g j
     → ColumnsWritten g old new j → next ≡ sets new (2 * (j * (1 + 2 * n))) (encode q) → ColumnsWritten g old next (j + 1)
 unfolding encodeTableau
-columns-next {n = n} g {old} {new} {next} j {q} h e w p = record {
+columns-next n g {old} {new} {next} j {q} h e w p = record {
   size = ap length p ∙ length-sets new (2 * (j * (1 + 2 * n))) (encode q) ∙ w .size;
   bytes =
       p
@@ -117,15 +122,15 @@ columns-next {n = n} g {old} {new} {next} j {q} h e w p = record {
 }
   where
     before : j * (1 + 2 * n) ≡ 0 + length (tableauNumbers (tab g j))
-    before = sym (zero-add _ ∙ all-length (tab-range g j h) ∙ ap (λ (m : ℕ). m * (1 + 2 * n)) (tab-length g j))
+    before = sym (zero-add _ ∙ columns-length n g j h)
 
     one-more : tableauNumbers (tab g j) ++ numbersOf (g j) ≡ tableauNumbers (tab g (j + 1))
     one-more = ap (λ (z : List ℕ). tableauNumbers (tab g j) ++ z) (sym (append-nil (numbersOf (g j)))) ∙ sym (numbers-append (tab g j) (g j ∷ [])) ∙ ap tableauNumbers (sym (tab-more g j))
 
 -- after the last: the tableau at the front of an output that has room
-pub columns-all : {d n : ℕ} {t : List Pauli} (g : ℕ → Pauli) {old new : List ℕ} {j : ℕ} → j ≡ 2 * n → t ≡ tab g (2 * n) → WellFormed d n t → tableauBytes n ≤ length old → ColumnsWritten g old new j → new ≡ front (encodeTableau t) old
+pub columns-all : (n : ℕ) {t : List Pauli} (g : ℕ → Pauli) {old new : List ℕ} {j : ℕ} → j ≡ 2 * n → t ≡ tab g (2 * n) → ((i : ℕ) → length (numbersOf (g i)) ≡ 1 + 2 * n) → tableauBytes n ≤ length old → ColumnsWritten g old new j → new ≡ front (encodeTableau t) old
 unfolding encodeTableau
-columns-all {t = t} g {old} e table f room w =
+columns-all n {t = t} g {old} e table h room w =
     w .bytes
     ∙ ap (λ (z : List Pauli). sets old (2 * 0) (bytesOf (tableauNumbers z))) (ap (tab g) e ∙ sym table)
-    ∙ write-front old (bytesOf (tableauNumbers t)) (omega (arith, bytes-length (tableauNumbers t), numbers-tableau f))
+    ∙ write-front old (bytesOf (tableauNumbers t)) (omega (arith, bytes-length (tableauNumbers t), ap (λ (z : List Pauli). length (tableauNumbers z)) table, columns-length n g (2 * n) h))

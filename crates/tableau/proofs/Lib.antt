@@ -13,3 +13,5 @@ pub mod Products
 pub mod Run
 pub mod Tests
 pub mod Units
+pub mod Shapes
+pub mod Views

@@ -1,11 +1,13 @@
 -- Lists of legal rows: a list carries each Pauli to its image under the list's tableau, which is sound.
-use mathlib.Core.Path.{_≡_, sym, _∙_, ap}
-use mathlib.Core.List.{List, _++_, map-map}
-use Prim.Native.Nat.{ℕ, _*_, _<_}
+use mathlib.Core.Path.{_≡_, refl, sym, _∙_, ap, ap₂}
+use mathlib.Core.List.{List, [], _∷_, _++_, map, map-map}
+use Prim.Native.Nat.{ℕ, _+_, _*_, _<_}
 use native.Mathlib.Omega.{arith}
 use Rattle.pauli.specs.Pauli.{Pauli, InRange, unit}
-use Rattle.gates.specs.Row.{Row, AllLegal, run}
-use Rattle.gates.proofs.Run.{run-append, run-hom}
+use Rattle.arith.specs.Bytes.{tab}
+use Rattle.gates.specs.Row.{Row, AllLegal, apply, run}
+use Rattle.gates.specs.Written.{WrittenRow, meant}
+use Rattle.gates.proofs.Run.{run-append, run-hom, run-start, run-next}
 use Rattle.tableau.specs.Tableau.{units, column, tableauOf, image, WellFormed, Sound, compose}
 use Rattle.tableau.proofs.Columns.{units-range, column-map, column-units, hom-formed, hom-sound, map-agree}
 use Rattle.tableau.proofs.Image.{hom-image}
@@ -31,3 +33,15 @@ pub tableau-append : {d n : ℕ} → 1 < d → (rs : List Row) {ss : List Row} �
 tableau-append {d} {n} one rs {ss} a b =
     map-agree (λ p r. run-append d rs ss p ∙ run-image one b (run d rs p) (run-hom one a .range p r)) (units-range d n one)
     ∙ sym (map-map (image d n (tableauOf d n ss)) (run d rs) (units n))
+
+-- ---- row by row: a loop that puts each row behind all columns, before the first row and after row i
+pub rows-none : (d : ℕ) (f : ℕ → WrittenRow) (t : List Pauli) → t ≡ map (run d (map meant (tab f 0))) t
+rows-none d f [] = refl
+rows-none d f (p ∷ t) = ap₂ (λ (x : Pauli) (l : List Pauli). x ∷ l) (run-start d f p) (rows-none d f t)
+
+rows-more : (d : ℕ) (f : ℕ → WrittenRow) (i : ℕ) (t : List Pauli) → map (apply d (meant (f i))) (map (run d (map meant (tab f i))) t) ≡ map (run d (map meant (tab f (i + 1)))) t
+rows-more d f i [] = refl
+rows-more d f i (p ∷ t) = ap₂ (λ (x : Pauli) (l : List Pauli). x ∷ l) (run-next d f i p refl refl) (rows-more d f i t)
+
+pub rows-next : (d : ℕ) (f : ℕ → WrittenRow) (i : ℕ) (t : List Pauli) {u s : List Pauli} → u ≡ map (run d (map meant (tab f i))) t → s ≡ map (apply d (meant (f i))) u → s ≡ map (run d (map meant (tab f (i + 1)))) t
+rows-next d f i t e g = g ∙ ap (map (apply d (meant (f i)))) e ∙ rows-more d f i t

@@ -5,12 +5,12 @@ use pauli::Pauli;
 ghost use mathlib.Core.Path.{_≡_};
 ghost use mathlib.Core.List.{_++_};
 ghost use Prim.Native.Nat.{_*_, _≤_, _<_};
-ghost use lib.ListN.{length, getD};
+ghost use lib.ListN.{getD};
 ghost use Rattle.arith.specs.Refusals.{Dimension};
 ghost use Rattle.pauli.specs.View.{view, entries};
 ghost use Rattle.tableau.specs.Tableau.{image, AllInRange};
 ghost use Rattle.tableau.specs.Inverse.{drawn, preimage};
-ghost use Rattle.tableau.specs.Bytes.{tableauBytes, decodeTableau};
+ghost use Rattle.tableau.specs.View.{tableView};
 
 // The power that column j gets in the image of p: v at j below n, w at j − n from n on.
 fn exponent(p: Pauli, j: usize, n: usize) -> u16
@@ -28,34 +28,32 @@ fn exponent(p: Pauli, j: usize, n: usize) -> u16
 }
 
 // The image of p: its phase alone, times column 1 to the power v1, and so on to column 2n to the power wn.
-pub fn image(t: &[u8], p: Pauli, d: u16, n: usize) -> Pauli
+pub fn image(t: &[[u16; 33]; 32], p: Pauli, d: u16, n: usize) -> Pauli
     requires { ⌜ Dimension d × (n ≤ 16) ⌝ }
-    requires { ⌜ length (now t) ≡ tableauBytes n ⌝ }
-    requires { ⌜ AllInRange d n (decodeTableau n (now t)) ⌝ }
-    ensures { λ r. ⌜ view n r ≡ image d n (decodeTableau n (now (t .entry))) (view n p) ⌝ }
+    requires { ⌜ AllInRange d n (tableView n (now t)) ⌝ }
+    ensures { λ r. ⌜ view n r ≡ image d n (tableView n (now (t .entry))) (view n p) ⌝ }
 {
     let m = 2 * n;
     let phase = p.phase;
     let mut out = Pauli::phase_only(phase);
     for j in 0..m {
-        let factor = crate::column(t, j, n).power(exponent(p, j, n), d, n);
+        let factor = crate::table::column(t, j).power(exponent(p, j, n), d, n);
         out = out.product(factor, d, n);
     }
     out
 }
 
 // The entries of the Pauli whose image is q up to the phase: v at i is minus the commutation number of q with column n + i, w at i that with column i.
-fn drawn(t: &[u8], q: Pauli, d: u16, n: usize) -> Pauli
+fn drawn(t: &[[u16; 33]; 32], q: Pauli, d: u16, n: usize) -> Pauli
     requires { ⌜ Dimension d × (n ≤ 16) ⌝ }
-    requires { ⌜ length (now t) ≡ tableauBytes n ⌝ }
-    ensures { λ r. ⌜ view n r ≡ drawn d n (decodeTableau n (now (t .entry))) (view n q) ⌝ }
+    ensures { λ r. ⌜ view n r ≡ drawn d n (tableView n (now (t .entry))) (view n q) ⌝ }
 {
     let mut v = [Residue(0); 16];
     let mut w = [Residue(0); 16];
     for i in 0..n {
-        let z = q.commutation(crate::column(t, n + i, n), d, n);
+        let z = q.commutation(crate::table::column(t, n + i), d, n);
         v[i] = z.negative(d);
-        w[i] = q.commutation(crate::column(t, i, n), d, n);
+        w[i] = q.commutation(crate::table::column(t, i), d, n);
     }
     Pauli {
         phase: Phase(0),
@@ -65,11 +63,10 @@ fn drawn(t: &[u8], q: Pauli, d: u16, n: usize) -> Pauli
 }
 
 // The Pauli whose image is q: those entries, with the phase that makes it exact.
-pub fn preimage(t: &[u8], q: Pauli, d: u16, n: usize) -> Pauli
+pub fn preimage(t: &[[u16; 33]; 32], q: Pauli, d: u16, n: usize) -> Pauli
     requires { ⌜ Dimension d × (n ≤ 16) ⌝ }
-    requires { ⌜ length (now t) ≡ tableauBytes n ⌝ }
-    requires { ⌜ AllInRange d n (decodeTableau n (now t)) ⌝ }
-    ensures { λ r. ⌜ view n r ≡ preimage d n (decodeTableau n (now (t .entry))) (view n q) ⌝ }
+    requires { ⌜ AllInRange d n (tableView n (now t)) ⌝ }
+    ensures { λ r. ⌜ view n r ≡ preimage d n (tableView n (now (t .entry))) (view n q) ⌝ }
 {
     let entries = drawn(t, q, d, n);
     let reached = image(t, entries, d, n);

@@ -1,21 +1,15 @@
 -- `gates::Ready::apply` meets its contract: each arm is the effect of its kind, and a legal row has one of the six.
-use mathlib.Core.Path.{_≡_, _∙_, ap, sym}
+use mathlib.Core.Path.{_≡_, _∙_, ap}
 use mathlib.Core.Bool.{true}
-use Prim.Native.Nat.{ℕ, _-_, _<_}
-use Rattle.pauli.specs.Pauli.{Pauli}
-use Rattle.gates.specs.Row.{apply}
-use Rattle.gates.specs.Written.{WrittenRow, rowOfKind, meant, takesTwo}
+use Prim.Native.Nat.{_-_, _<_}
+use Rattle.gates.specs.Written.{takesTwo}
 use Rattle.gates.specs.View.{viewRow}
-use Rattle.gates.proofs.Written.{legal-first, legal-second, legal-kind, no-kind}
+use Rattle.gates.proofs.Acts.{of-kind}
+use Rattle.gates.proofs.Written.{legal-first, legal-second, legal-apart, legal-kind, no-kind}
 use native.Mathlib.Omega.{arith}
 use borrow.Author.Needs.{needs}
 use Rattle.gates.proofs.Ready.apply.Statement.{statement}
 use Rattle.gates.proofs.Ready.apply.Tie as tie
-
--- the row of that kind is the row that is meant
-of-kind : (d : ℕ) (w : WrittenRow) (kind : ℕ) (p : Pauli) → w .kind ≡ kind → apply d (rowOfKind kind (w .first - 1) (w .second - 1) (w .power)) p ≡ apply d (meant w) p
-unfolding meant
-of-kind d w kind p e = ap (λ (x : ℕ). apply d (rowOfKind x (w .first - 1) (w .second - 1) (w .power)) p) (sym e)
 
 -- the first qudit, and the second where the kind takes one
 first : (c : tie.After-struct-known) → let a = c .before .before .args in (a .self .row .first - 1 < a .n) × (a .self .row .first - 1 < 16)
@@ -26,13 +20,11 @@ second c e = let s = legal-second _ _ _ (c .before .before .pre .1 .0) e in omeg
 
 pub apply-spec : {M : Type 1} → statement M
 apply-spec = tie.close (tie.spec
-    (λ c. search needs)  -- cast-i
     (λ c. legal-first _ _ _ (c .before .before .pre .1 .0) .0)  -- sub-i
     (λ c κs. (c .before .before .before .pre .0 .0, first (c .before) .1))  -- effect-f-requires
     (λ c κs. (c .before .before .before .pre .0 .0, first (c .before) .1))  -- effect-s-requires
-    (λ c. search needs)  -- cast-effect-a
     (λ c. legal-second _ _ _ (c .before .before .before .before .pre .1 .0) (ap takesTwo (c .before .match .keys3)) .0)  -- sub-effect-a
-    (λ c κs. let f = first (c .before .before) in let s = second (c .before .before) (ap takesTwo (c .before .match .keys3)) in (c .before .before .before .before .pre .0 .0, omega arith))  -- effect-a-requires
+    (λ c κs. let f = first (c .before .before) in let s = second (c .before .before) (ap takesTwo (c .before .match .keys3)) in (c .before .before .before .before .pre .0 .0, (f .1, (s .1, legal-apart _ _ _ (c .before .before .before .before .pre .1 .0) (ap takesTwo (c .before .match .keys3))))))  -- effect-a-requires
     (λ c κs. ((c .before .before .before .pre .0 .0, first (c .before) .1), c .before .before .before .pre .1 .1 (c .match .keys4)))  -- effect-m-requires
     (λ c κs. (c .before .before .before .pre .0 .0, first (c .before) .1))  -- effect-x-requires
     (λ c κs. (c .before .before .before .pre .0 .0, first (c .before) .1))  -- effect-z-requires

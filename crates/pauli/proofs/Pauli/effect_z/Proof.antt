@@ -1,22 +1,19 @@
--- `pauli::Pauli::effect_z` meets its contract: the phase in reduced steps.
-use mathlib.Core.Path.{refl, _∙_}
-use Rattle.pauli.proofs.Change.{entry, z-phase}
-use Rattle.pauli.proofs.Ranges.{pauli-path}
+-- `pauli::Pauli::effect_z` meets its contract: the effect on the numbers that it touches.
+use mathlib.Core.Path.{sym, _∙_}
+use Rattle.pauli.specs.View.{view}
+use Rattle.pauli.proofs.Numbers.{view-has, placed-one}
 use borrow.Author.Needs.{needs}
 use Rattle.pauli.proofs.Pauli.effect_z.Statement.{statement}
 use Rattle.pauli.proofs.Pauli.effect_z.Tie as tie
 
 returns : tie.Need-returns
 returns c n l m =
-    let s = c .before .before .before .before .before .before in
-    let a = s .args in
-    rw (entry {n = n} (a .self .v) l) (pauli-path (c .plus .ensures ∙ rw (c .before .before .doubled .ensures, c .before .before .before .times .ensures) (z-phase (a .d) (a .k) (s .pre .0 .d-low) _ _ .same)) refl refl)
+    let a = c .before .before .before .args in
+    c .placed .ensures n l m ∙ sym (placed-one (c .before .effect-z .ensures (a .i) (view n (a .self)) (view-has (a .self) l) (sym (c .before .before .touched .ensures n l l))))
 
 pub effect-z-spec : {M : Type 1} → statement M
 effect-z-spec = tie.close (tie.spec
-    (λ c. search needs)  -- mul-times
-    (λ c. search needs)  -- array-copy-out-times
-    (λ c κs. search needs)  -- times-requires
-    (λ c κs. search needs)  -- doubled-requires
-    (λ c κs. search needs)  -- plus-requires
+    (λ c κs. search needs)  -- touched-requires
+    (λ c κs. search needs)  -- effect-z-requires
+    (λ c κs. search needs)  -- placed-requires
     returns)

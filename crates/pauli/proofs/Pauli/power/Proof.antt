@@ -40,6 +40,8 @@ mul-reduced c = omega (arith, twists-below (c .before .ordered-pairs .result) (c
 
 pub power-spec : {M : Type 1} → statement M
 power-spec = tie.close (tie.spec
+    (λ c κs. search needs)  -- multiples-requires
+    (λ c κs. search needs)  -- multiples-requires-2
     (λ c κs. search needs)  -- sum-of-products-requires
     (λ c κs. search needs)  -- reduced-requires
     (λ c κs. search needs)  -- ordered-pairs-requires
@@ -48,9 +50,8 @@ power-spec = tie.close (tie.spec
     (λ c κs. search needs)  -- reduced-requires-2
     (λ c κs. search needs)  -- times-requires
     (λ c κs. search needs)  -- plus-requires
-    (λ c κs. search needs)  -- multiples-requires
-    (λ c κs. search needs)  -- multiples-requires-2
-    (λ c. let a = c .before .before .before .before .before .before .before .before .before .before .before .before .args in
-    pauli-path (power-phase _ _ _ (omega arith) (c .before .before .plus .ensures) (c .before .before .before .times .ensures) (c .before .before .before .before .before .reduced2 .ensures) (c .before .before .before .before .before .before .before .ordered-pairs .ensures .0) (c .before .before .before .before .before .before .before .before .reduced .ensures) (c .before .before .before .before .before .before .before .before .before .sum-of-products .ensures .0))
-    (c .before .multiples .ensures ∙ sym (scaled-tab _ _ _ _)) (c .multiples2 .ensures ∙ sym (scaled-tab _ _ _ _))
-    ∙ sym (power-closed (a .d) (a .n) (a .k) (omega arith) (c .before .before .before .before .before .before .before .before .before .before .before .before .pre .1))))  -- returns
+    (λ c. let m = c .before .before .before .before .before .before .before .before in
+    let s = m .before .before .before .before in
+    pauli-path (power-phase _ _ _ (omega arith) (c .plus .ensures) (c .before .times .ensures) (c .before .before .before .reduced2 .ensures) (c .before .before .before .before .before .ordered-pairs .ensures .0) (c .before .before .before .before .before .before .reduced .ensures) (c .before .before .before .before .before .before .before .sum-of-products .ensures .0))
+    (m .before .multiples .ensures ∙ sym (scaled-tab _ _ _ _)) (m .multiples2 .ensures ∙ sym (scaled-tab _ _ _ _))
+    ∙ sym (power-closed (s .args .d) (s .args .n) (s .args .k) (omega arith) (s .pre .1))))  -- returns

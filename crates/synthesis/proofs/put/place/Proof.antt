@@ -7,8 +7,9 @@ use Rattle.synthesis.proofs.put.place.Tie as tie
 
 returns : tie.Need-returns
 returns c =
-    let s = c .before .before .before .before .before .before .before in
-    does-put _ (c .before .before .before .before .before .put-columns .ensures) (s .pre .1 .0 .1) (c .before .before .write-row .ensures) refl
+    let s = c .before .before .before .before .before .before .before .before in
+    let e = c .before .before .before .before .before .put-columns .ensures in
+    (does-put _ (e .0) (s .pre .1 .0 .1) (c .before .before .write-row .ensures) refl, e .1)
 
 pub place-spec : {M : Type 1} → statement M
 place-spec = tie.close (tie.spec

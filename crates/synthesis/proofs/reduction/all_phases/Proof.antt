@@ -8,12 +8,13 @@ use Rattle.synthesis.proofs.Stages.{up-all}
 use Rattle.tableau.specs.Tableau.{upFrom}
 use Rattle.synthesis.specs.Reduce.{each, phases}
 use native.Mathlib.Omega.{arith}
+use Rattle.tableau.specs.View.{tableView}
 use borrow.Author.Needs.{needs}
 use Rattle.synthesis.proofs.reduction.all_phases.Statement.{statement}
 use Rattle.synthesis.proofs.reduction.all_phases.Tie as tie
 
 abbrev Inv-loop : tie.InvT-loop
-Inv-loop d n out₀ count₀ s₀ i₀ out count s i = (i ≤ n) × ((length out ≡ length out₀) × Does d n (2 * i) (upTo (phases d n) 0 i) s₀ out₀ count₀ s out count)
+Inv-loop d n out₀ count₀ s₀ i₀ out count s i = (i ≤ n) × ((length out ≡ length out₀) × Does d (2 * i) (upTo (phases d n) 0 i) (tableView n s₀) out₀ count₀ (tableView n s) out count)
 
 abbrev μ-loop : tie.MeasureT-loop
 μ-loop d n out₀ count₀ s₀ i₀ out count s i = n - i

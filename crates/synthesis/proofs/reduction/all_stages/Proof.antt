@@ -8,12 +8,13 @@ use Rattle.synthesis.proofs.Progress.{upTo, loop-none, loop-more, does-
 use Rattle.tableau.specs.Tableau.{upFrom}
 use Rattle.synthesis.specs.Reduce.{each, stage}
 use native.Mathlib.Omega.{arith}
+use Rattle.tableau.specs.View.{tableView}
 use borrow.Author.Needs.{needs}
 use Rattle.synthesis.proofs.reduction.all_stages.Statement.{statement}
 use Rattle.synthesis.proofs.reduction.all_stages.Tie as tie
 
 abbrev Inv-loop : tie.InvT-loop
-Inv-loop d n out₀ count₀ s₀ q₀ out count s q = (q ≤ n) × ((length out ≡ length out₀) × ((count + stageRows (n - q) ≤ count₀ + stageRows n) × Does d n (stageRows n) (upTo (stage d n) 0 q) s₀ out₀ count₀ s out count))
+Inv-loop d n out₀ count₀ s₀ q₀ out count s q = (q ≤ n) × ((length out ≡ length out₀) × ((count + stageRows (n - q) ≤ count₀ + stageRows n) × Does d (stageRows n) (upTo (stage d n) 0 q) (tableView n s₀) out₀ count₀ (tableView n s) out count))
 
 abbrev μ-loop : tie.MeasureT-loop
 μ-loop d n out₀ count₀ s₀ q₀ out count s q = n - q

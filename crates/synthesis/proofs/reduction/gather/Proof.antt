@@ -1,17 +1,39 @@
--- `synthesis::reduction::gather` meets its contract: its steps in turn.
+-- `synthesis::reduction::gather` meets its contract: its turns one after the other.
+use native.Mathlib.Nat.{le-refl}
 use Rattle.synthesis.proofs.Progress.{does-more, does-then}
 use native.Mathlib.Omega.{arith}
 use borrow.Author.Needs.{needs}
 use Rattle.synthesis.proofs.reduction.gather.Statement.{statement}
 use Rattle.synthesis.proofs.reduction.gather.Tie as tie
 
+one-turn-requires : tie.Need-one-turn-requires
+one-turn-requires c κs =
+    let s = c .before .before .before .before in
+    let h = s .pre in
+    (h .0, ((le-refl _, h .1 .0), (tt, (omega arith, h .1 .1 .1))))
+
+each-later-requires : tie.Need-each-later-requires
+each-later-requires c κs =
+    let s = c .before .before .before .before .before .before .before .before .before .before in
+    let h = s .pre in
+    let x0 = c .before .before .before .before .before .one-turn in
+    (h .0, ((h .1 .0, λ j u l. tt), (omega (arith, x0 .kept, x0 .ensures .0 .within), x0 .ensures .1)))
+
+each-later-requires-2 : tie.Need-each-later-requires-2
+each-later-requires-2 c κs =
+    let s = c .before .before .before .before .before .before .before .before .before .before .before .before .before .before .before .before in
+    let h = s .pre in
+    let x0 = c .before .before .before .before .before .each-later in
+    let x1 = c .before .before .before .before .before .before .before .before .before .before .before .one-turn in
+    (h .0, ((h .1 .0, λ j u l. l), (omega (arith, x0 .kept, x1 .kept, x0 .ensures .0 .within, x1 .ensures .0 .within), x0 .ensures .1)))
+
 returns : tie.Need-returns
-returns c = does-more (omega arith) (does-then (does-then (c .before .before .before .before .before .before .before .before .before .before .before .before .gather-in-qudit .ensures) (c .before .before .before .before .before .before .before .each-later .ensures)) (c .before .before .each-later2 .ensures))
+returns c = (does-more (omega arith) (does-then (does-then (c .before .before .before .before .before .before .before .before .before .before .before .before .before .before .one-turn .ensures .0) (c .before .before .before .before .before .before .before .before .each-later .ensures .0)) (c .before .before .each-later2 .ensures .0)), c .before .before .each-later2 .ensures .1)
 
 pub gather-spec : {M : Type 1} → statement M
 gather-spec = tie.close (tie.spec
-    (λ c κs. search needs)  -- gather-in-qudit-requires
-    (λ c κs. search needs)  -- each-later-requires
-    (λ c κs. search needs)  -- each-later-requires-2
+    one-turn-requires
+    each-later-requires
+    each-later-requires-2
     (λ c. search needs)  -- same-length
     returns)

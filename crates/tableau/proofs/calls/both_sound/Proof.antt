@@ -1,7 +1,7 @@
 -- `tableau::calls::both_sound` meets its contract: `good` past a check, `stop` at one. p1, p2, ..: the places past the first check, the second, and so on.
 use mathlib.Core.Path.{_≡_}
 use Rattle.arith.specs.Refusals.{pairingOf, parityOf}
-use Rattle.tableau.specs.Bytes.{decodeTableau}
+use Rattle.tableau.specs.View.{tableView}
 use Rattle.tableau.specs.Soundness.{pairingHolds, parityHolds}
 use Rattle.arith.proofs.Refusals.{good, stop}
 use borrow.Author.Needs.{needs}
@@ -9,15 +9,15 @@ use Rattle.tableau.proofs.calls.both_sound.Statement.{statement}
 use Rattle.tableau.proofs.calls.both_sound.Tie as tie
 
 -- past 7 of the first
-past-first : (c : tie.After-enum-told) → let a = c .before .before .before .before .before .args in pairingOf (pairingHolds (a .d) (a .n) (decodeTableau (a .n) (a .first .now))) ≡ 0
+past-first : (c : tie.After-enum-told) → let a = c .before .before .before .args in pairingOf (pairingHolds (a .d) (a .n) (tableView (a .n) (a .first .now))) ≡ 0
 past-first c = good _ (c .before .before .pairing .ensures) (c .enum-told .given .1)
 
 -- past 7 of the second
-past-second : (c : tie.After-enum-told3) → let a = c .before .before .before .before .before .before .before .before .args in pairingOf (pairingHolds (a .d) (a .n) (decodeTableau (a .n) (a .second .now))) ≡ 0
+past-second : (c : tie.After-enum-told3) → let a = c .before .before .before .before .before .before .args in pairingOf (pairingHolds (a .d) (a .n) (tableView (a .n) (a .second .now))) ≡ 0
 past-second c = good _ (c .before .before .pairing2 .ensures) (c .enum-told3 .given .1)
 
 -- past 8 of the first
-past-parity : (c : tie.After-enum-told5) → let a = c .before .before .before .before .before .before .before .before .before .before .before .args in parityOf (parityHolds (a .d) (a .n) (decodeTableau (a .n) (a .first .now))) ≡ 0
+past-parity : (c : tie.After-enum-told5) → let a = c .before .before .before .before .before .before .before .before .before .args in parityOf (parityHolds (a .d) (a .n) (tableView (a .n) (a .first .now))) ≡ 0
 past-parity c = good _ (c .before .before .parity .ensures) (c .enum-told5 .given .1)
 
 returns-2 : tie.Need-returns-2

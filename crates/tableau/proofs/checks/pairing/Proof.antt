@@ -5,7 +5,7 @@ use Prim.Native.Nat.{_*_, _-_, _≤_}
 use Rattle.arith.proofs.Refusals.{good, pairing-good}
 use Rattle.arith.specs.Refusals.{checked, pairingOf}
 use Rattle.tableau.specs.Tableau.{upFrom}
-use Rattle.tableau.specs.Bytes.{decodeTableau}
+use Rattle.tableau.specs.View.{tableView}
 use Rattle.tableau.specs.Soundness.{all, laterPass, pairingHolds}
 use Rattle.tableau.proofs.Loops.{all-start, all-pass, all-fail, all-end, pairing-failed, pairing-passed}
 use native.Mathlib.Omega.{arith}
@@ -14,15 +14,15 @@ use Rattle.tableau.proofs.checks.pairing.Statement.{statement}
 use Rattle.tableau.proofs.checks.pairing.Tie as tie
 
 abbrev Inv-loop : tie.InvT-loop
-Inv-loop t d n m j₀ j = (j ≤ m) × (pairingHolds d n (decodeTableau n t) ≡ all (laterPass d n (decodeTableau n t)) (upFrom j (m - j)))
+Inv-loop t d n m j₀ j = (j ≤ m) × (pairingHolds d n (tableView n t) ≡ all (laterPass d n (tableView n t)) (upFrom j (m - j)))
 
 abbrev μ-loop : tie.MeasureT-loop
 μ-loop t d n m j₀ j = m - j
 
 loop-holds : tie.Need-loop-holds Inv-loop μ-loop
 loop-holds c =
-    let a = c .before .args in
-    (omega arith, all-start (laterPass (a .d) (a .n) (decodeTableau (a .n) (a .t .now))) (2 * a .n))
+    let a = c .args in
+    (omega arith, all-start (laterPass (a .d) (a .n) (tableView (a .n) (a .t .now))) (2 * a .n))
 
 returns : tie.Need-returns Inv-loop μ-loop
 returns c =
@@ -34,7 +34,7 @@ loop-again c = (omega arith, c .before .before .before .before .loop .inv .1 ∙
 
 returns-2 : tie.Need-returns-2 Inv-loop μ-loop
 returns-2 c =
-    let e : 2 * c .before .before .before .args .n ≤ c .before .loop .j = omega arith in
+    let e : 2 * c .before .before .args .n ≤ c .before .loop .j = omega arith in
     pairing-passed _ (c .before .loop .inv .1 ∙ all-end _ _ _ e)
 
 pub pairing-spec : {M : Type 1} → statement M

@@ -5,7 +5,7 @@ use borrow.Author.Tests.{eq-eqb, ne-eqb}
 use Rattle.pauli.specs.Pauli.{parity}
 use Rattle.tableau.proofs.Loops.{all-start, all-pass, all-fail, all-end, parity-refused, parity-passed}
 use Rattle.tableau.specs.Tableau.{upFrom}
-use Rattle.tableau.specs.Bytes.{decodeTableau}
+use Rattle.tableau.specs.View.{tableView}
 use Rattle.tableau.specs.Soundness.{all, evenPasses, parityHolds}
 use native.Mathlib.Omega.{arith}
 use borrow.Author.Needs.{needs}
@@ -13,25 +13,25 @@ use Rattle.tableau.proofs.checks.parity.Statement.{statement}
 use Rattle.tableau.proofs.checks.parity.Tie as tie
 
 abbrev Inv-loop : tie.InvT-loop
-Inv-loop t d n m j₀ j = (j ≤ m) × (parityHolds d n (decodeTableau n t) ≡ all (evenPasses d n (decodeTableau n t)) (upFrom j (m - j)))
+Inv-loop t d n m j₀ j = (j ≤ m) × (parityHolds d n (tableView n t) ≡ all (evenPasses d n (tableView n t)) (upFrom j (m - j)))
 
 abbrev μ-loop : tie.MeasureT-loop
 μ-loop t d n m j₀ j = m - j
 
 loop-holds : tie.Need-loop-holds Inv-loop μ-loop
 loop-holds c =
-    let a = c .before .args in
-    (omega arith, all-start (evenPasses (a .d) (a .n) (decodeTableau (a .n) (a .t .now))) (2 * a .n))
+    let a = c .args in
+    (omega arith, all-start (evenPasses (a .d) (a .n) (tableView (a .n) (a .t .now))) (2 * a .n))
 
 returns : tie.Need-returns Inv-loop μ-loop
-returns c = parity-refused _ (c .before .before .before .before .loop .inv .1 ∙ all-fail _ _ _ (c .before .before .before .loop-test .taken) (ne-eqb _ 0 (λ e. c .if1 .taken (c .before .parity .ensures ∙ ap (parity _) (c .before .before .column .ensures) ∙ e))))
+returns c = parity-refused _ (c .before .before .before .before .loop .inv .1 ∙ all-fail _ _ _ (c .before .before .before .loop-test .taken) (ne-eqb _ 0 (λ e. c .if1 .taken (c .before .parity .ensures ∙ ap (parity _) (c .before .before .column .ensures _ (omega arith) (omega arith)) ∙ e))))
 
 loop-again : tie.Need-loop-again Inv-loop μ-loop
-loop-again c = (omega arith, c .before .before .before .before .loop .inv .1 ∙ all-pass _ _ _ (c .before .before .before .loop-test .taken) (eq-eqb _ 0 (ap (parity _) (sym (c .before .before .column .ensures)) ∙ sym (c .before .parity .ensures) ∙ c .if1 .left)))
+loop-again c = (omega arith, c .before .before .before .before .loop .inv .1 ∙ all-pass _ _ _ (c .before .before .before .loop-test .taken) (eq-eqb _ 0 (ap (parity _) (sym (c .before .before .column .ensures _ (omega arith) (omega arith))) ∙ sym (c .before .parity .ensures) ∙ c .if1 .left)))
 
 returns-2 : tie.Need-returns-2 Inv-loop μ-loop
 returns-2 c =
-    let e : 2 * c .before .before .before .args .n ≤ c .before .loop .j = omega arith in
+    let e : 2 * c .before .before .args .n ≤ c .before .loop .j = omega arith in
     parity-passed _ (c .before .loop .inv .1 ∙ all-end _ _ _ e)
 
 pub parity-spec : {M : Type 1} → statement M

@@ -12,7 +12,7 @@ use Rattle.pauli.specs.View.{view, entries}
 use Rattle.pauli.proofs.Entries.{fill-more}
 use Rattle.pauli.proofs.Ranges.{pauli-path}
 use Rattle.tableau.specs.Tableau.{column}
-use Rattle.tableau.specs.Bytes.{decodeTableau}
+use Rattle.tableau.specs.View.{tableView}
 use Rattle.tableau.proofs.Loops.{table}
 use native.Mathlib.Omega.{arith}
 use borrow.Author.Needs.{needs}
@@ -26,7 +26,7 @@ abbrev drawn-w : ℕ → ℕ → List Pauli → Pauli → ℕ → ℕ
 drawn-w d n t q i = comm d q (column n t i)
 
 abbrev Inv-loop : tie.InvT-loop
-Inv-loop t q d n v₀ w₀ i₀ v w i = (i ≤ n) × ((length v ≡ 16) × ((length w ≡ 16) × ((entries i v ≡ tab (drawn-v d n (decodeTableau n t) (view n q)) i) × (entries i w ≡ tab (drawn-w d n (decodeTableau n t) (view n q)) i))))
+Inv-loop t q d n v₀ w₀ i₀ v w i = (i ≤ n) × ((length v ≡ 16) × ((length w ≡ 16) × ((entries i v ≡ tab (drawn-v d n (tableView n t) (view n q)) i) × (entries i w ≡ tab (drawn-w d n (tableView n t) (view n q)) i))))
 
 abbrev μ-loop : tie.MeasureT-loop
 μ-loop t q d n v₀ w₀ i₀ v w i = n - i
@@ -36,13 +36,13 @@ loop-holds c = (omega arith, (refl, (refl, (tab-none _ ∙ sym (tab-none _), tab
 
 loop-again : tie.Need-loop-again Inv-loop μ-loop
 loop-again c =
-    let a = c .before .before .before .before .before .before .before .before .args in
+    let a = c .before .before .before .before .before .before .before .args in
     let l = c .before .before .before .before .before .before .loop in
-    (omega arith, (simp length-set (l .inv .1 .0), (simp length-set (l .inv .1 .1 .0), (fill-more _ (l .v) (l .i) _ (omega arith) (c .before .before .negative .ensures ∙ ap (λ (x : ℕ). neg (a .d) x % a .d) (c .before .before .before .commutation .ensures ∙ ap (comm (a .d) (view (a .n) (a .q))) (c .before .before .before .before .column .ensures))) (l .inv .1 .1 .1 .0), fill-more _ (l .w) (l .i) _ (omega arith) (c .commutation2 .ensures ∙ ap (comm (a .d) (view (a .n) (a .q))) (c .before .column2 .ensures)) (l .inv .1 .1 .1 .1)))))
+    (omega arith, (simp length-set (l .inv .1 .0), (simp length-set (l .inv .1 .1 .0), (fill-more _ (l .v) (l .i) _ (omega arith) (c .before .before .negative .ensures ∙ ap (λ (x : ℕ). neg (a .d) x % a .d) (c .before .before .before .commutation .ensures ∙ ap (comm (a .d) (view (a .n) (a .q))) (c .before .before .before .before .column .ensures (a .n) (omega arith) (omega arith)))) (l .inv .1 .1 .1 .0), fill-more _ (l .w) (l .i) _ (omega arith) (c .commutation2 .ensures ∙ ap (comm (a .d) (view (a .n) (a .q))) (c .before .column2 .ensures (a .n) (omega arith) (omega arith))) (l .inv .1 .1 .1 .1)))))
 
 returns : tie.Need-returns Inv-loop μ-loop
 returns c =
-    let a = c .before .before .before .args in
+    let a = c .before .before .args in
     let l = c .before .loop in
     let e : l .i ≡ a .n = omega arith in
     pauli-path refl (rw e at (l .inv .1 .1 .1 .0) ∙ sym (table _ _)) (rw e at (l .inv .1 .1 .1 .1) ∙ sym (table _ _))

@@ -5,16 +5,16 @@ use Rattle.arith.specs.Residues.{neg}
 use Rattle.pauli.specs.Pauli.{Pauli}
 use Rattle.pauli.proofs.Ranges.{pauli-path}
 use Rattle.tableau.specs.Tableau.{image}
-use Rattle.tableau.specs.Bytes.{decodeTableau}
+use Rattle.tableau.specs.View.{tableView}
 use borrow.Author.Needs.{needs}
 use Rattle.tableau.proofs.maps.preimage.Statement.{statement}
 use Rattle.tableau.proofs.maps.preimage.Tie as tie
 
 returns : tie.Need-returns
 returns c =
-    let a = c .before .before .before .before .before .before .before .args in
+    let a = c .before .before .before .before .before .before .args in
     let e = c .before .before .before .before .before .drawn .ensures in
-    pauli-path (c .before .before .minus .ensures ∙ ap (λ (x : Pauli). (a .q .phase .0 + neg (2 * a .d) (x .phase)) % (2 * a .d)) (c .before .before .before .before .image .ensures ∙ ap (image (a .d) (a .n) (decodeTableau (a .n) (a .t .now))) e)) (ap (λ (x : Pauli). x .v) e) (ap (λ (x : Pauli). x .w) e)
+    pauli-path (c .before .before .minus .ensures ∙ ap (λ (x : Pauli). (a .q .phase .0 + neg (2 * a .d) (x .phase)) % (2 * a .d)) (c .before .before .before .before .image .ensures ∙ ap (image (a .d) (a .n) (tableView (a .n) (a .t .now))) e)) (ap (λ (x : Pauli). x .v) e) (ap (λ (x : Pauli). x .w) e)
 
 pub preimage-spec : {M : Type 1} → statement M
 preimage-spec = tie.close (tie.spec

@@ -6,17 +6,17 @@ use Prim.Native.Nat.{ℕ, _-_, _≤_, _<_}
 use Rattle.pauli.specs.Pauli.{Pauli, unit}
 use Rattle.pauli.proofs.Units.{unit-range}
 use Rattle.tableau.specs.Inverse.{preimage}
-use Rattle.tableau.specs.Bytes.{decodeTableau}
-use Rattle.tableau.proofs.Inverse.{preimage-range, inverse-formed}
+use Rattle.tableau.specs.View.{tableView}
+use Rattle.tableau.proofs.Inverse.{preimage-range}
 use Rattle.tableau.proofs.Loops.{inverse-table}
-use Rattle.tableau.proofs.Bytes.{ColumnsWritten, columns-none, columns-next, columns-all}
+use Rattle.tableau.proofs.Bytes.{ColumnsWritten, columns-none, columns-next, columns-all, numbers-length}
 use native.Mathlib.Omega.{arith}
 use borrow.Author.Needs.{needs}
 use Rattle.tableau.proofs.output.write_inverse.Statement.{statement}
 use Rattle.tableau.proofs.output.write_inverse.Tie as tie
 
-abbrev undone : List ℕ → ℕ → ℕ → ℕ → Pauli
-undone t d n j = preimage d n (decodeTableau n t) (unit n j)
+abbrev undone : List (List ℕ) → ℕ → ℕ → ℕ → Pauli
+undone t d n j = preimage d n (tableView n t) (unit n j)
 
 abbrev Inv-loop : tie.InvT-loop
 Inv-loop t d n out₀ m j₀ out j = (j ≤ m) × ColumnsWritten (undone t d n) out₀ out j
@@ -26,23 +26,23 @@ abbrev μ-loop : tie.MeasureT-loop
 
 preimage-requires : tie.Need-preimage-requires Inv-loop μ-loop
 preimage-requires c κs =
-    let h = c .before .before .before .before .before .pre in
-    (h .0, (h .1 .0, h .1 .1 .0 .0 .ranges))
+    let h = c .before .before .before .before .pre in
+    (h .0, h .1 .0 .0 .ranges)
 
 loop-again : tie.Need-loop-again Inv-loop μ-loop
 loop-again c =
-    let a = c .before .before .before .before .before .before .before .before .before .before .args in
+    let a = c .before .before .before .before .before .before .before .before .before .args in
     let l = c .before .before .before .before .before .before .before .loop in
-    let f = c .before .before .before .before .before .before .before .before .before .before .pre .1 .1 .0 in
-    let one : 1 < a .d = omega (arith, c .before .before .before .before .before .before .before .before .before .before .pre .0) in
-    (omega arith, columns-next (undone (a .t .now) (a .d) (a .n)) (l .j) (λ i. preimage-range one (f .0) (f .1) (unit (a .n) i) (unit-range (a .d) (a .n) i one)) (c .before .before .before .before .preimage .ensures ∙ ap (preimage (a .d) (a .n) (decodeTableau (a .n) (a .t .now))) (c .before .before .before .before .before .unit .ensures)) (l .inv .1) (c .before .before .write-column .ensures))
+    let f = c .before .before .before .before .before .before .before .before .before .pre .1 .0 in
+    let one : 1 < a .d = omega (arith, c .before .before .before .before .before .before .before .before .before .pre .0) in
+    (omega arith, columns-next (a .n) (undone (a .t .now) (a .d) (a .n)) (l .j) (λ i. numbers-length (preimage-range one (f .0) (f .1) (unit (a .n) i) (unit-range (a .d) (a .n) i one))) (c .before .before .before .before .preimage .ensures ∙ ap (preimage (a .d) (a .n) (tableView (a .n) (a .t .now))) (c .before .before .before .before .before .unit .ensures)) (l .inv .1) (c .before .before .write-column .ensures))
 
 returns : tie.Need-returns Inv-loop μ-loop
 returns c =
-    let a = c .before .before .before .before .args in
+    let a = c .before .before .before .args in
     let l = c .before .loop in
-    let f = c .before .before .before .before .pre .1 .1 .0 in
-    columns-all (undone (a .t .now) (a .d) (a .n)) (omega arith) (inverse-table (a .d) (a .n) (decodeTableau (a .n) (a .t .now))) (inverse-formed (omega (arith, c .before .before .before .before .pre .0)) (f .0) (f .1)) (c .before .before .before .before .pre .1 .1 .1) (l .inv .1)
+    let f = c .before .before .before .pre .1 .0 in
+    columns-all (a .n) (undone (a .t .now) (a .d) (a .n)) (omega arith) (inverse-table (a .d) (a .n) (tableView (a .n) (a .t .now))) (λ i. numbers-length (preimage-range (omega (arith, c .before .before .before .pre .0)) (f .0) (f .1) (unit (a .n) i) (unit-range (a .d) (a .n) i (omega (arith, c .before .before .before .pre .0))))) (c .before .before .before .pre .1 .1) (l .inv .1)
 
 pub write-inverse-spec : {M : Type 1} → statement M
 write-inverse-spec = tie.close (tie.spec Inv-loop μ-loop

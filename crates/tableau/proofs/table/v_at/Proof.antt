@@ -1,0 +1,18 @@
+-- `tableau::table::v_at` meets its contract.
+use mathlib.Core.Path.{sym}
+use Rattle.tableau.proofs.Views.{view-v}
+use borrow.Author.Needs.{needs}
+use Rattle.tableau.proofs.table.v_at.Statement.{statement}
+use Rattle.tableau.proofs.table.v_at.Tie as tie
+
+returns : tie.Need-returns
+returns c n h l = sym (view-v n _ _ _ h l)
+
+pub v-at-spec : {M : Type 1} → statement M
+v-at-spec = tie.close (tie.spec
+    (λ c. search needs)  -- add-t4
+    (λ c. search needs)  -- mul-t5
+    (λ c. search needs)  -- mul-t8
+    (λ c. search needs)  -- index-1-t11
+    (λ c. search needs)  -- index-2-t11
+    returns)
