@@ -40,7 +40,7 @@ fn within(low: usize, high: usize, x: usize) -> bool
     x <= high
 }
 
-// The highest legal power of a kind: 0 where there is no such kind.
+// The highest legal power of a kind: 0 where there is no such kind. It is looked up, since a jump on the kind is guessed wrongly for most rows.
 pub fn highest_power(kind: u16, d: u16) -> u16
     requires { ⌜ Dimension d ⌝ }
     ensures { λ r. ⌜ r ≡ highest d kind ⌝ }
