@@ -10,7 +10,7 @@ ghost use Rattle.pauli.specs.Range.{boundsOf};
 ghost use Rattle.pauli.specs.View.{at, entries};
 
 // The product of two entries, not reduced.
-pub fn whole_product(x: Residue, y: Residue) -> u64
+fn whole_product(x: Residue, y: Residue) -> u64
     ensures { λ r. ⌜ (r ≡ x .0 * y .0) × (r < 4294967296) ⌝ }
 {
     (x.0 as u64) * (y.0 as u64)

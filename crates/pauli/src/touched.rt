@@ -3,7 +3,6 @@
 use arith::residue::Phase;
 use arith::residue::Residue;
 ghost use mathlib.Core.Path.{_≡_};
-ghost use Prim.Native.Nat.{ℕ};
 ghost use Rattle.arith.specs.Refusals.{Dimension};
 ghost use Rattle.arith.specs.Units.{inverseOf};
 ghost use Rattle.pauli.specs.Touched.{viewTouched, OnOne, OnTwo};

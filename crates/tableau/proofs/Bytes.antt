@@ -7,7 +7,7 @@ use native.Mathlib.Omega.{arith}
 use lib.ListN.{length, take, drop, length-append}
 use lib.Seq.{sets, length-sets, split-at, length-take-le}
 use Rattle.arith.specs.Bytes.{tab, bytesOf, front}
-use Rattle.arith.proofs.Bytes.{tab-none, tab-more, tab-length, tab-at, tab-ext, tab-list, bytes-length, write-more, write-front}
+use Rattle.arith.proofs.Bytes.{tab-none, tab-more, tab-length, tab-ext, tab-list, bytes-length, write-more, write-front}
 use Rattle.arith.proofs.Refusals.{orElse-none}
 use Rattle.pauli.specs.Pauli.{Pauli, InRange, phaseOnly}
 use Rattle.pauli.specs.Bytes.{decodeAt, numbersOf, encode}
@@ -37,10 +37,6 @@ decode-length n b = tab-length (λ j. columnAt n j b) (2 * n)
 pub decode-table : (n : ℕ) (b : List ℕ) → decodeTableau n b ≡ tab (λ j. columnAt n j b) (2 * n)
 unfolding decodeTableau
 decode-table n b = refl
-
-pub decode-column : (n j : ℕ) (b : List ℕ) → j < 2 * n → column n (decodeTableau n b) j ≡ columnAt n j b
-unfolding decodeTableau
-decode-column n j b h = tab-at (λ i. columnAt n i b) (2 * n) j (phaseOnly n 0) h
 
 -- what is decoded has 2n columns of n entries of each kind, so it is well formed once 5 is past
 ranges-good : {d n : ℕ} (f : ℕ → ℕ) (b : List ℕ) (m : ℕ) → tableauRangeOf d (tab (λ j. decodeAt n (f j) b) m) ≡ 0 → AllInRange d n (tab (λ j. decodeAt n (f j) b) m)

@@ -15,8 +15,7 @@ use Rattle.arith.specs.declared.checks.Check.{Check}
 use Rattle.arith.specs.declared.checks.Check.the-variants.{Good, Refused}
 use Rattle.pauli.specs.Pauli.{Pauli, product, power, phaseOnly, unit}
 use Rattle.pauli.specs.Range.{pauliRangeOf}
-use Rattle.gates.specs.Row.{Row, run}
-use Rattle.tableau.specs.Tableau.{upFrom, column, multiplied, tableauOf, image, compose}
+use Rattle.tableau.specs.Tableau.{upFrom, column, multiplied, image, compose}
 use Rattle.tableau.specs.Inverse.{preimage, inverse}
 use Rattle.tableau.specs.Range.{tableauRangeOf}
 use Rattle.tableau.specs.Soundness.{all}
@@ -96,9 +95,6 @@ pub table : {A : Type 0} (f : ℕ → A) (m : ℕ) → map f (upFrom 0 m) ≡ ta
 table f m = table-from f 0 m ∙ tab-ext _ f m (λ i h. ap f (zero-add i))
 
 -- ---- the columns of a tableau that is written, by their numbers
-pub tableau-table : (d n : ℕ) (rows : List Row) → tableauOf d n rows ≡ tab (λ j. run d rows (unit n j)) (2 * n)
-tableau-table d n rows = ap (map (run d rows)) (table (unit n) (2 * n)) ∙ tab-map (run d rows) (unit n) (2 * n)
-
 pub compose-table : (d n : ℕ) (t u : List Pauli) → length t ≡ 2 * n → compose d n t u ≡ tab (λ j. image d n u (column n t j)) (2 * n)
 compose-table d n t u e =
     ap (map (image d n u)) (sym (ap (tab (column n t)) (sym e) ∙ tab-list (phaseOnly n 0) t)) ∙ tab-map (image d n u) (column n t) (2 * n)

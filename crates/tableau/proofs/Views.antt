@@ -7,7 +7,7 @@ use native.Mathlib.Omega.{arith}
 use lib.ListN.{length, getD, set, replicate, length-set, length-append, length-replicate, getD-replicate}
 use lib.Seq.{getD-set-same, getD-set-other, ext-getD}
 use Rattle.arith.specs.Bytes.{tab}
-use Rattle.arith.proofs.Bytes.{tab-at, tab-ext, tab-map, tab-list, tab-length}
+use Rattle.arith.proofs.Bytes.{tab-at, tab-ext, tab-map, tab-length}
 use Rattle.arith.proofs.Cases.{by-eq}
 use Rattle.pauli.specs.Pauli.{Pauli, phaseOnly}
 use Rattle.pauli.specs.Bytes.{numbersOf}
@@ -46,13 +46,10 @@ pub view-map : (n : ℕ) (t t′ : List (List ℕ)) (f : Pauli → Pauli) → ((
 unfolding tableView
 view-map n t t′ f h = tab-ext (λ j. columnView n (getD t′ j [])) (λ j. f (columnView n (getD t j []))) (2 * n) h ∙ sym (tab-map f (λ j. columnView n (getD t j [])) (2 * n))
 
--- the columns one by one, by their numbers and as a list
+-- the columns one by one, by their numbers
 pub view-table : (n : ℕ) (t : List (List ℕ)) (f : ℕ → Pauli) → ((c : ℕ) → c < 2 * n → columnView n (getD t c []) ≡ f c) → tableView n t ≡ tab f (2 * n)
 unfolding tableView
 view-table n t f h = tab-ext (λ j. columnView n (getD t j [])) f (2 * n) h
-
-pub view-list : (n : ℕ) (t : List (List ℕ)) (u : List Pauli) → length u ≡ 2 * n → ((c : ℕ) → c < 2 * n → columnView n (getD t c []) ≡ column n u c) → tableView n t ≡ u
-view-list n t u e h = view-table n t (column n u) h ∙ ap (tab (column n u)) (sym e) ∙ tab-list (phaseOnly n 0) u
 
 -- how many numbers a column has
 pub view-length : (n : ℕ) (c : List ℕ) → length (numbersOf (columnView n c)) ≡ 1 + 2 * n

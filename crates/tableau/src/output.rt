@@ -25,6 +25,18 @@ fn write_column(c: Pauli, out: &mut [u8], j: usize, n: usize)
     c.write(out, j * (1 + 2 * n), n);
 }
 
+// Writes the tableau in work.
+fn write_table(t: &[[u16; 33]; 32], n: usize, out: &mut [u8])
+    requires { ⌜ n ≤ 16 ⌝ }
+    requires { ⌜ tableauBytes n ≤ length (now out) ⌝ }
+    ensures { λ _. ⌜ now (out .exit) ≡ front (encodeTableau (tableView n (now (t .entry)))) (now (out .entry)) ⌝ }
+{
+    let m = 2 * n;
+    for j in 0..m {
+        write_column(crate::table::column(t, j), out, j, n);
+    }
+}
+
 // Writes the tableau of the list: column j is what the list makes of unit Pauli j. Each row is put behind all columns.
 pub fn write_tableau(list: &[u8], d: u16, n: usize, out: &mut [u8])
     requires { ⌜ Dimension d × (n ≤ 16) ⌝ }
@@ -38,7 +50,7 @@ pub fn write_tableau(list: &[u8], d: u16, n: usize, out: &mut [u8])
         let row = gates::lists::read_row(list, r);
         crate::table::put_columns(&mut t, row, d, n);
     }
-    crate::table::write_table(&t, n, out);
+    write_table(&t, n, out);
 }
 
 // Writes the first tableau, then the second: each column of the first mapped by the second.

@@ -10,18 +10,16 @@ ghost use mathlib.Core.Bool.{true};
 ghost use mathlib.Core.List.{map};
 ghost use Prim.Native.Nat.{ℕ, _+_, _*_, _≤_, _<_};
 ghost use lib.ListN.{length, getD};
-ghost use lib.Seq.{sets};
-ghost use Rattle.arith.specs.Bytes.{tab, bytesOf, front};
 ghost use Rattle.arith.specs.Refusals.{Dimension};
 ghost use Rattle.pauli.specs.Pauli.{phaseOnly, unit};
-ghost use Rattle.pauli.specs.Bytes.{decodeAt, encode};
+ghost use Rattle.pauli.specs.Bytes.{decodeAt};
 ghost use Rattle.pauli.specs.View.{view};
 ghost use Rattle.pauli.specs.Touched.{viewTouched, touched, replaced};
 ghost use Rattle.gates.specs.Row.{apply};
 ghost use Rattle.gates.specs.Written.{meant, legalRow};
 ghost use Rattle.gates.specs.View.{viewRow, InverseRight};
-ghost use Rattle.tableau.specs.Tableau.{column, units, WellFormed};
-ghost use Rattle.tableau.specs.Bytes.{tableauBytes, decodeTableau, encodeTableau};
+ghost use Rattle.tableau.specs.Tableau.{column, units};
+ghost use Rattle.tableau.specs.Bytes.{tableauBytes, decodeTableau};
 ghost use Rattle.tableau.specs.View.{columnView, tableView, Shaped};
 
 // ---- its numbers
@@ -101,38 +99,6 @@ pub fn read_into(t: &mut [[u16; 33]; 32], b: &[u8], n: usize)
     let m = 2 * n;
     for j in 0..m {
         read_column(&mut t[j], b, j * (1 + 2 * n), n);
-    }
-}
-
-// Writes the n numbers of a column from its place p on, from number k of the bytes on.
-fn write_places(c: &[u16; 33], p: usize, b: &mut [u8], k: usize, n: usize)
-    requires { ⌜ (n ≤ 16) × ((p ≤ 17) × (2 * (k + n) ≤ length (now b))) ⌝ }
-    ensures { λ _. ⌜ now (b .exit) ≡ sets (now (b .entry)) (2 * k) (bytesOf (tab (λ i. getD (now (c .entry)) (p + i) 0) n)) ⌝ }
-{
-    for i in 0..n {
-        arith::numbers::put(b, k + i, c[p + i]);
-    }
-}
-
-// Writes a column from number k on.
-fn write_column(c: &[u16; 33], b: &mut [u8], k: usize, n: usize)
-    requires { ⌜ (n ≤ 16) × (2 * (k + 1 + 2 * n) ≤ length (now b)) ⌝ }
-    ensures { λ _. ⌜ now (b .exit) ≡ sets (now (b .entry)) (2 * k) (encode (columnView n (now (c .entry)))) ⌝ }
-{
-    arith::numbers::put(b, k, c[0]);
-    write_places(c, 1, b, k + 1, n);
-    write_places(c, 17, b, k + 1 + n, n);
-}
-
-// Writes the tableau.
-pub fn write_table(t: &[[u16; 33]; 32], n: usize, out: &mut [u8])
-    requires { ⌜ n ≤ 16 ⌝ }
-    requires { ⌜ tableauBytes n ≤ length (now out) ⌝ }
-    ensures { λ _. ⌜ now (out .exit) ≡ front (encodeTableau (tableView n (now (t .entry)))) (now (out .entry)) ⌝ }
-{
-    let m = 2 * n;
-    for j in 0..m {
-        write_column(&t[j], out, j * (1 + 2 * n), n);
     }
 }
 

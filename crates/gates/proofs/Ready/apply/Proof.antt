@@ -7,7 +7,6 @@ use Rattle.gates.specs.View.{viewRow}
 use Rattle.gates.proofs.Acts.{of-kind}
 use Rattle.gates.proofs.Written.{legal-first, legal-second, legal-apart, legal-kind, no-kind}
 use native.Mathlib.Omega.{arith}
-use borrow.Author.Needs.{needs}
 use Rattle.gates.proofs.Ready.apply.Statement.{statement}
 use Rattle.gates.proofs.Ready.apply.Tie as tie
 
