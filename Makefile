@@ -7,14 +7,16 @@
 # make clean       removes what was built
 
 PREFIX ?= /usr/local
-VERSION = 1.0.1
+VERSION = 1.0.2
 
 .PHONY: all test gate hosts lib program install clean
 
 all: lib program
 
-# The gate's log is kept, so that its last line can be printed last.
-test: gate hosts
+# The gate's log is kept, so that its last line can be printed last. The hosts run two at a time, once all is built; what each prints stays together.
+test: gate
+	@$(MAKE) --no-print-directory lib program
+	@$(MAKE) --no-print-directory --jobs=2 --output-sync hosts
 	@tail -n 1 build/gate.log
 
 gate:

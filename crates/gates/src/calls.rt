@@ -21,14 +21,9 @@ fn run_check(d: u16, n: u16, list: &[u8], p: &[u8], room: usize) -> Check
         return of_rows;
     };
     let m = n as usize;
-    let want = 2 * (1 + 2 * m);
-    let of_p = arith::checks::size(want, p.len());
+    let of_p = pauli::calls::lent(n, p.len(), room);
     let Check::Good = of_p else {
         return of_p;
-    };
-    let of_room = arith::checks::room(want, room);
-    let Check::Good = of_room else {
-        return of_room;
     };
     let of_range = Pauli::read(p, 0, m).range(d, m);
     let Check::Good = of_range else {

@@ -1,9 +1,10 @@
--- Lists of residues: all below d, all zero, zero but at one place, one entry put back.
+-- Lists of residues: all below d, all zero, zero but at one place, one entry put back, entries set one after the other.
 -- (Of a list with an entry set lib.ListN has `length-set`, lib.Seq has `getD-set-same`, `getD-set-other`, `set-getD` and `set-set`.)
 use mathlib.Core.Path.{_≡_, refl, sym, _∙_, ap}
 use mathlib.Core.List.{List, _∷_, _++_}
 use mathlib.Core.Logic.{_≢_}
-use Prim.Native.Nat.{ℕ, zero, suc, _<_}
+use Prim.Native.Nat.{ℕ, zero, suc, _+_, _<_}
+use native.Mathlib.Omega.{arith}
 use lib.ListN.{length, getD, take, drop, set, replicate, length-set, length-replicate}
 use lib.Seq.{set-getD, set-set, getD-set-same, getD-set-other, ext-getD}
 use Rattle.arith.proofs.Cases.{by-eq}
@@ -74,3 +75,9 @@ set-back xs i e = ap (λ (x : ℕ). set xs i x) e ∙ set-getD xs i 0
 
 pub set-set-back : (xs : List ℕ) (i a : ℕ) {b : ℕ} → b ≡ getD xs i 0 → set (set xs i a) i b ≡ xs
 set-set-back xs i a {b} e = set-set xs i a b ∙ set-back xs i e
+
+-- a loop that sets the places g 0, g 1, .. of a list to f 0, f 1, ..: after place i
+pub set-next : (f g : ℕ → ℕ) (l : List ℕ) (i x : ℕ) → ((j : ℕ) → j < i → g j ≢ g i) → g i < length l → x ≡ f i → ((j : ℕ) → j < i → getD l (g j) 0 ≡ f j) → (j : ℕ) → j < i + 1 → getD (set l (g i) x) (g j) 0 ≡ f j
+set-next f g l i x apart h e before j m = by-eq j i
+    (λ q. ap (λ (y : ℕ). getD (set l (g i) x) (g y) 0) q ∙ getD-set-same l (g i) x 0 h ∙ e ∙ ap f (sym q))
+    (λ ne. let k : j < i = omega arith in getD-set-other l (g i) (g j) x 0 (apart j k) ∙ before j k)

@@ -1,40 +1,73 @@
--- Refusal 5: a loop of checks (none refused yet, one more that passes, one that refuses), and what holds once 5 is past. Assumes nothing.
-use mathlib.Core.Path.{_≡_, refl, _∙_}
+-- Refusal 5: the larger of two numbers, a loop over v and w, and what holds once 5 is past. Assumes nothing.
+use mathlib.Core.Path.{_≡_, refl, sym, ap, ap₂, _∙_}
 use mathlib.Core.List.{List, [], _∷_}
-use Prim.Native.Nat.{ℕ, zero, suc, _+_, _*_, _<_}
-use native.Mathlib.Nat.{le-of-suc-le-suc, not-suc-le-zero}
+use Prim.Native.Nat.{ℕ, zero, suc, _+_, _*_, _≤_, _<_}
 use native.Mathlib.Numerals.{add-one}
+use native.Mathlib.Omega.{arith}
 use lib.ListN.{length}
 use Rattle.arith.specs.Bytes.{tab}
-use Rattle.arith.specs.Refusals.{orElse, rangeOf}
-use Rattle.arith.proofs.Refusals.{orElse-none, orElse-skip, range-good as number-good}
+use Rattle.arith.specs.Refusals.{orElse, unlessHolds, rangeOf}
+use Rattle.arith.proofs.Cases.{by-less, ltb-case}
+use Rattle.arith.proofs.Refusals.{orElse-none, orElse-assoc, range-good as number-good}
 use Rattle.pauli.specs.Pauli.{Pauli, Below, none, more, InRange}
 use Rattle.pauli.specs.Range.{boundsOf, pauliRangeOf}
 
--- ---- a loop over a table
-pub bounds-none : (d : ℕ) (f : ℕ → ℕ) → boundsOf d (tab f 0) ≡ 0
-unfolding tab boundsOf
-bounds-none d f = refl
+-- ---- a number in range, and one that isn't
+range-in : {d x : ℕ} → x < d → rangeOf d x ≡ 0
+unfolding rangeOf
+range-in {d} {x} h = ltb-case (λ b. unlessHolds 5 b ≡ 0) x d (λ l. refl) (λ l. absurd (omega arith))
 
-bounds-suc : (d : ℕ) (f : ℕ → ℕ) (i : ℕ) → boundsOf d (tab f i) ≡ 0 → rangeOf d (f i) ≡ 0 → boundsOf d (tab f (suc i)) ≡ 0
-unfolding tab boundsOf
-bounds-suc d f zero h e = rw e
-bounds-suc d f (suc i) h e =
-    let z = orElse-none (rangeOf d (f 0)) (boundsOf d (tab (λ j. f (suc j)) i)) h in
-    rw (z .0) (bounds-suc d (λ j. f (suc j)) i (z .1) e)
+range-out : {d x : ℕ} → d ≤ x → rangeOf d x ≡ 5
+unfolding rangeOf
+range-out {d} {x} h = ltb-case (λ b. unlessHolds 5 b ≡ 5) x d (λ l. absurd (omega arith)) (λ l. refl)
 
-pub bounds-more : (d : ℕ) (f : ℕ → ℕ) (i : ℕ) → boundsOf d (tab f i) ≡ 0 → rangeOf d (f i) ≡ 0 → boundsOf d (tab f (i + 1)) ≡ 0
-bounds-more d f i h e = rw (add-one i) (bounds-suc d f i h e)
+-- the larger of two is the second, or the first
+pub second-larger : (d x y : ℕ) → x < y → rangeOf d y ≡ orElse (rangeOf d x) (rangeOf d y)
+second-larger d x y h = by-less x d
+    (λ l. rw (range-in l))
+    (λ l. rw (range-out l, range-out {d = d} {x = y} (omega arith)))
 
--- the first refusal is at i
-pub bounds-stop : (d : ℕ) (f : ℕ → ℕ) (i n : ℕ) → i < n → boundsOf d (tab f i) ≡ 0 → (y : ℕ) × (boundsOf d (tab f n) ≡ orElse (rangeOf d (f i)) y)
+pub first-larger : (d x y : ℕ) → y ≤ x → rangeOf d x ≡ orElse (rangeOf d x) (rangeOf d y)
+first-larger d x y h = by-less x d
+    (λ l. rw (range-in l, range-in {d = d} {x = y} (omega arith)))
+    (λ l. rw (range-out l))
+
+-- ---- a loop over two tables: no number yet, and one more of each
+pub bounds-none : (d : ℕ) (f g : ℕ → ℕ) → 0 < d → rangeOf d 0 ≡ orElse (boundsOf d (tab f 0)) (boundsOf d (tab g 0))
 unfolding tab boundsOf
-bounds-stop d f i zero l h = absurd (not-suc-le-zero l)
-bounds-stop d f zero (suc n) l h = (boundsOf d (tab (λ j. f (suc j)) n), refl)
-bounds-stop d f (suc i) (suc n) l h =
-    let z = orElse-none (rangeOf d (f 0)) (boundsOf d (tab (λ j. f (suc j)) i)) h in
-    let r = bounds-stop d (λ j. f (suc j)) i n (le-of-suc-le-suc l) (z .1) in
-    (r .0, orElse-skip (boundsOf d (tab (λ j. f (suc j)) n)) (z .0) ∙ r .1)
+bounds-none d f g h = range-in h
+
+last : (d : ℕ) (f : ℕ → ℕ) (i : ℕ) → boundsOf d (tab f (suc i)) ≡ orElse (boundsOf d (tab f i)) (rangeOf d (f i))
+unfolding tab boundsOf
+last d f zero = alone (rangeOf d (f 0))
+  where
+    alone : (x : ℕ) → orElse x 0 ≡ x
+    alone zero = refl
+    alone (suc x) = refl
+last d f (suc i) =
+    ap (orElse (rangeOf d (f 0))) (last d (λ j. f (suc j)) i)
+    ∙ sym (orElse-assoc (rangeOf d (f 0)) (boundsOf d (tab (λ j. f (suc j)) i)) (rangeOf d (f (suc i))))
+
+-- each is 0 or 5
+range-five : (d x : ℕ) → orElse (rangeOf d x) 5 ≡ 5
+range-five d x = by-less x d (λ l. rw (range-in l)) (λ l. rw (range-out l))
+
+bounds-five : (d : ℕ) (xs : List ℕ) → orElse (boundsOf d xs) 5 ≡ 5
+unfolding boundsOf
+bounds-five d [] = refl
+bounds-five d (x ∷ xs) = orElse-assoc (rangeOf d x) (boundsOf d xs) 5 ∙ ap (orElse (rangeOf d x)) (bounds-five d xs) ∙ range-five d x
+
+exchanged : (a b x y : ℕ) → orElse b 5 ≡ 5 → orElse x 5 ≡ 5 → orElse (orElse a b) (orElse x y) ≡ orElse (orElse a x) (orElse b y)
+exchanged (suc a) b x y e f = refl
+exchanged zero zero x y e f = refl
+exchanged zero (suc b) zero y e f = refl
+exchanged zero (suc b) (suc x) y e f = e ∙ sym f
+
+pub bounds-more : (d : ℕ) (f g : ℕ → ℕ) (i : ℕ) {r s t : ℕ} → t ≡ orElse (boundsOf d (tab f i)) (boundsOf d (tab g i)) → s ≡ orElse (rangeOf d (f i)) (rangeOf d (g i)) → r ≡ orElse t s → r ≡ orElse (boundsOf d (tab f (i + 1))) (boundsOf d (tab g (i + 1)))
+bounds-more d f g i e h k =
+    k ∙ ap₂ orElse e h
+    ∙ exchanged (boundsOf d (tab f i)) (boundsOf d (tab g i)) (rangeOf d (f i)) (rangeOf d (g i)) (bounds-five d (tab g i)) (range-five d (f i))
+    ∙ rw (add-one i) (ap₂ orElse (sym (last d f i)) (sym (last d g i)))
 
 -- ---- what holds once 5 is past
 pub bounds-good : (d : ℕ) (xs : List ℕ) → boundsOf d xs ≡ 0 → Below d xs

@@ -2,9 +2,10 @@
 use arith::checks::Check;
 use arith::residue::Residue;
 ghost use mathlib.Core.Path.{_≡_};
-ghost use Prim.Native.Nat.{_*_, _%_, _≤_, _<_};
+ghost use Prim.Native.Nat.{ℕ, _+_, _*_, _%_, _≤_, _<_};
+ghost use lib.ListN.{getD};
 ghost use Rattle.arith.specs.Bytes.{tab};
-ghost use Rattle.arith.specs.Refusals.{Dimension, checked};
+ghost use Rattle.arith.specs.Refusals.{Dimension, checked, orElse, rangeOf};
 ghost use Rattle.pauli.specs.Pauli.{dot, plus};
 ghost use Rattle.pauli.specs.Range.{boundsOf};
 ghost use Rattle.pauli.specs.View.{at, entries};
@@ -54,17 +55,38 @@ pub fn multiples(k: u16, a: [Residue; 16], d: u16, n: usize) -> [Residue; 16]
     out
 }
 
-// Whether every entry is below d.
-pub fn bounds(a: [Residue; 16], d: u16, n: usize) -> Check
-    requires { ⌜ n ≤ 16 ⌝ }
-    ensures { λ r. ⌜ r ≡ checked (boundsOf d (entries n a)) ⌝ }
+// The larger of two numbers: it is out of range where one of the two is.
+fn larger(x: u16, y: u16) -> u16
+    ensures { λ r. ⌜ ((d : ℕ) → rangeOf d r ≡ orElse (rangeOf d x) (rangeOf d y)) ⌝ }
 {
-    for i in 0..n {
-        let x = a[i];
-        let found = arith::checks::range(d, x.0);
-        let Check::Good = found else {
-            return found;
-        };
+    if x < y {
+        return y;
     }
-    Check::Good
+    x
+}
+
+// Whether every v and every w is below d. The largest is looked for, and not the first that isn't below: a loop that never stops early takes several at a time.
+pub fn bounds(v: [Residue; 16], w: [Residue; 16], d: u16, n: usize) -> Check
+    requires { ⌜ Dimension d × (n ≤ 16) ⌝ }
+    ensures { λ r. ⌜ r ≡ checked (orElse (boundsOf d (entries n v)) (boundsOf d (entries n w))) ⌝ }
+{
+    let mut top: u16 = 0;
+    for i in 0..n {
+        let x = v[i];
+        let z = w[i];
+        top = larger(top, larger(x.0, z.0));
+    }
+    arith::checks::range(d, top)
+}
+
+// The 16 numbers from number k on, as entries.
+pub fn entries_from(a: &[u16; 33], k: usize) -> [Residue; 16]
+    requires { ⌜ k ≤ 17 ⌝ }
+    ensures { λ r. ⌜ ((n : ℕ) → n ≤ 16 → entries n r ≡ tab (λ i. getD (now (a .entry)) (k + i) 0) n) ⌝ }
+{
+    let mut out = [Residue(0); 16];
+    for i in 0..16 {
+        out[i] = Residue(a[k + i]);
+    }
+    out
 }

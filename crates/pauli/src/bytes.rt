@@ -3,21 +3,21 @@ use crate::Pauli;
 use arith::residue::Phase;
 use arith::residue::Residue;
 ghost use mathlib.Core.Path.{_≡_};
-ghost use Prim.Native.Nat.{_+_, _*_, _≤_};
-ghost use lib.ListN.{length};
+ghost use Prim.Native.Nat.{ℕ, _+_, _*_, _≤_, _<_};
+ghost use lib.ListN.{length, getD};
 ghost use lib.Seq.{sets};
-ghost use Rattle.arith.specs.Bytes.{numbersAt, bytesOf};
+ghost use Rattle.arith.specs.Bytes.{numberAt, bytesOf};
 ghost use Rattle.pauli.specs.Bytes.{decodeAt, encode};
 ghost use Rattle.pauli.specs.View.{entries, view};
 
-// The n numbers from number k on, as entries.
-fn read_entries(b: &[u8], k: usize, n: usize) -> [Residue; 16]
-    requires { ⌜ (n ≤ 16) × (2 * (k + n) ≤ length (now b)) ⌝ }
-    ensures { λ r. ⌜ entries n r ≡ numbersAt (now (b .entry)) k n ⌝ }
+// The m numbers from number k on.
+fn read_numbers(b: &[u8], k: usize, m: usize) -> [u16; 33]
+    requires { ⌜ (m ≤ 33) × (2 * (k + m) ≤ length (now b)) ⌝ }
+    ensures { λ r. ⌜ ((i : ℕ) → i < m → getD r i 0 ≡ numberAt (now (b .entry)) (k + i)) ⌝ }
 {
-    let mut out = [Residue(0); 16];
-    for i in 0..n {
-        out[i] = Residue(arith::numbers::get(b, k + i));
+    let mut out = [0u16; 33];
+    for i in 0..m {
+        out[i] = arith::numbers::get(b, k + i);
     }
     out
 }
@@ -34,16 +34,16 @@ fn write_entries(b: &mut [u8], k: usize, a: [Residue; 16], n: usize)
 }
 
 impl Pauli {
-    // The Pauli on n qudits that starts at number k of the bytes.
+    // The Pauli on n qudits that starts at number k of the bytes. All its numbers are read in one loop: of v and w it holds 16 places, whatever n is.
     pub fn read(b: &[u8], k: usize, n: usize) -> Pauli
         requires { ⌜ (n ≤ 16) × (2 * (k + 1 + 2 * n) ≤ length (now b)) ⌝ }
         ensures { λ r. ⌜ view n r ≡ decodeAt n k (now (b .entry)) ⌝ }
     {
-        let phase = arith::numbers::get(b, k);
-        let v = read_entries(b, k + 1, n);
-        let w = read_entries(b, k + 1 + n, n);
+        let numbers = read_numbers(b, k, 1 + 2 * n);
+        let v = crate::arrays::entries_from(&numbers, 1);
+        let w = crate::arrays::entries_from(&numbers, 1 + n);
         Pauli {
-            phase: Phase(phase),
+            phase: Phase(numbers[0]),
             v: v,
             w: w,
         }

@@ -86,9 +86,11 @@ impl Pauli {
         let kv = crate::arrays::multiples(k, v, d, n);
         let kw = crate::arrays::multiples(k, w, d, n);
         let twist = Residue::reduced(crate::arrays::sum_of_products(w, v, n), d);
-        let twists = Phase::reduced(ordered_pairs(k) * (twist.0 as u64), d);
         let delta = self.phase;
-        let phase = delta.times(k, d).plus(twists, d);
+        let phase = Phase::reduced(
+            ordered_pairs(k) * (twist.0 as u64) + (k as u64) * (delta.0 as u64),
+            d,
+        );
         Pauli {
             phase: phase,
             v: kv,
@@ -134,11 +136,7 @@ impl Pauli {
         let Check::Good = of_phase else {
             return of_phase;
         };
-        let of_v = crate::arrays::bounds(v, d, n);
-        let Check::Good = of_v else {
-            return of_v;
-        };
-        crate::arrays::bounds(w, d, n)
+        crate::arrays::bounds(v, w, d, n)
     }
 
     // 5 of this Pauli, then of the other.

@@ -14,7 +14,7 @@ use Rattle.pauli.specs.Bytes.{numbersOf}
 use Rattle.pauli.specs.Touched.{Touched, touched, replaced, Has}
 use Rattle.pauli.proofs.Ranges.{pauli-path}
 use Rattle.pauli.proofs.Entries.{tab-zero}
-use Rattle.pauli.proofs.Lists.{getD-zeros, zeros-length}
+use Rattle.pauli.proofs.Lists.{getD-zeros, zeros-length, set-next}
 use Rattle.tableau.specs.Tableau.{column}
 use Rattle.tableau.specs.View.{columnView, tableView, Shaped}
 
@@ -169,11 +169,6 @@ changed-more P j {old} {new} {c} h p e a = record {
 }
 
 -- ---- a loop that sets v and w of a column, place after place
-set-from : (f : ℕ → ℕ) (k : ℕ) (l : List ℕ) (i x : ℕ) → k + i < length l → x ≡ f i → ((j : ℕ) → j < i → getD l (k + j) 0 ≡ f j) → (j : ℕ) → j < i + 1 → getD (set l (k + i) x) (k + j) 0 ≡ f j
-set-from f k l i x h e g j m = by-eq j i
-    (λ q. ap (λ (y : ℕ). getD (set l (k + i) x) (k + y) 0) q ∙ getD-set-same l (k + i) x 0 h ∙ e ∙ ap f (sym q))
-    (λ ne. getD-set-other l (k + i) (k + j) x 0 (λ (q : k + j ≡ k + i). ne (omega arith)) ∙ g j (omega arith))
-
 pub record Filled (h : ℕ) (f g : ℕ → ℕ) (i : ℕ) (c : List ℕ) : Type 0 where
   pub size : length c ≡ 33
   pub phase : getD c 0 0 ≡ h
@@ -190,8 +185,8 @@ filled-more {h} {f} {g} {c} i x z l e q a =
     record {
       size = length-set b (17 + i) z ∙ m;
       phase = getD-set-other b (17 + i) 0 z 0 (λ (r : 0 ≡ 17 + i). omega arith) ∙ getD-set-other c (1 + i) 0 x 0 (λ (r : 0 ≡ 1 + i). omega arith) ∙ a .phase;
-      v = λ j k. getD-set-other b (17 + i) (1 + j) z 0 (λ (r : 1 + j ≡ 17 + i). omega arith) ∙ set-from f 1 c i x (omega (arith, a .size)) e (a .v) j k;
-      w = set-from g 17 b i z (omega (arith, m)) q (λ j k. getD-set-other c (1 + i) (17 + j) x 0 (λ (r : 17 + j ≡ 1 + i). omega arith) ∙ a .w j k);
+      v = λ j k. getD-set-other b (17 + i) (1 + j) z 0 (λ (r : 1 + j ≡ 17 + i). omega arith) ∙ set-next f (λ m. 1 + m) c i x (λ m l (r : 1 + m ≡ 1 + i). omega arith) (omega (arith, a .size)) e (a .v) j k;
+      w = set-next g (λ m. 17 + m) b i z (λ k l (r : 17 + k ≡ 17 + i). omega arith) (omega (arith, m)) q (λ j k. getD-set-other c (1 + i) (17 + j) x 0 (λ (r : 17 + j ≡ 1 + i). omega arith) ∙ a .w j k);
     }
 
 pub filled-all : (n : ℕ) {h : ℕ} {f g : ℕ → ℕ} {c : List ℕ} → Filled h f g n c → columnView n c ≡ record { phase = h; v = tab f n; w = tab g n }

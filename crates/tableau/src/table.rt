@@ -50,29 +50,18 @@ pub fn phase_at(t: &[[u16; 33]; 32], c: usize) -> u16
 
 // ---- its columns
 
-// A column as a Pauli. All 16 places are read, whatever n is, so that the loop's length is known.
-fn pauli_of(c: &[u16; 33]) -> Pauli
-    ensures { λ r. ⌜ ((n : ℕ) → n ≤ 16 → view n r ≡ columnView n (now (c .entry))) ⌝ }
-{
-    let mut v = [Residue(0); 16];
-    let mut w = [Residue(0); 16];
-    for i in 0..16 {
-        v[i] = Residue(c[1 + i]);
-        w[i] = Residue(c[17 + i]);
-    }
-    Pauli {
-        phase: Phase(c[0]),
-        v: v,
-        w: w,
-    }
-}
-
 // Column j as a Pauli.
 pub fn column(t: &[[u16; 33]; 32], j: usize) -> Pauli
     requires { ⌜ j < 32 ⌝ }
     ensures { λ r. ⌜ ((n : ℕ) → n ≤ 16 → j < 2 * n → view n r ≡ column n (tableView n (now (t .entry))) j) ⌝ }
 {
-    pauli_of(&t[j])
+    let v = pauli::arrays::entries_from(&t[j], 1);
+    let w = pauli::arrays::entries_from(&t[j], 17);
+    Pauli {
+        phase: Phase(t[j][0]),
+        v: v,
+        w: w,
+    }
 }
 
 // ---- bytes

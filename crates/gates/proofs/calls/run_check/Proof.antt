@@ -1,10 +1,10 @@
 -- `gates::calls::run_check` meets its contract: `good` past a check, `stop` at one.
-use mathlib.Core.Path.{_≡_}
+use mathlib.Core.Path.{_≡_, sym}
 use lib.ListN.{length}
 use Rattle.arith.specs.Refusals.{givenOf, sizeOf, listSizeOf, roomOf}
 use Rattle.pauli.specs.Bytes.{pauliBytes, decode}
 use Rattle.pauli.specs.Range.{pauliRangeOf}
-use Rattle.arith.proofs.Refusals.{good, stop, given-good, size-good}
+use Rattle.arith.proofs.Refusals.{good, stop, stop-first, orElse-none, orElse-assoc, given-good, size-good}
 use borrow.Author.Needs.{needs}
 use Rattle.gates.proofs.calls.run_check.Statement.{statement}
 use Rattle.gates.proofs.calls.run_check.Tie as tie
@@ -16,14 +16,11 @@ past-given c = good _ (c .before .before .given .ensures) (c .enum-told .given .
 past-rows : (c : tie.After-enum-told3) → listSizeOf (length (c .before .before .before .before .before .before .before .before .args .list .now)) ≡ 0
 past-rows c = good _ (c .before .before .list-size .ensures) (c .enum-told3 .given .1)
 
-past-p : (c : tie.After-enum-told5) → let a = c .before .before .before .before .before .before .before .before .before .before .before .args in sizeOf (pauliBytes (a .n)) (length (a .p .now)) ≡ 0
-past-p c = good _ (c .before .before .size .ensures) (c .enum-told5 .given .1)
+past-p : (c : tie.After-enum-told5) → let a = c .before .before .before .before .before .before .before .before .before .before .before .args in (sizeOf (pauliBytes (a .n)) (length (a .p .now)) ≡ 0) × (roomOf (pauliBytes (a .n)) (a .room) ≡ 0)
+past-p c = orElse-none _ _ (good _ (c .before .before .lent .ensures) (c .enum-told5 .given .1))
 
-past-room : (c : tie.After-enum-told7) → let a = c .before .before .before .before .before .before .before .before .before .before .before .before .before .before .args in roomOf (pauliBytes (a .n)) (a .room) ≡ 0
-past-room c = good _ (c .before .before .room .ensures) (c .enum-told7 .given .1)
-
-past-range : (c : tie.After-enum-told9) → let a = c .before .before .before .before .before .before .before .before .before .before .before .before .before .before .before .before .before .before .args in pauliRangeOf (a .d) (decode (a .n) (a .p .now)) ≡ 0
-past-range c = good _ (rw (c .before .before .before .read .ensures) at (c .before .before .range .ensures)) (c .enum-told9 .given .1)
+past-range : (c : tie.After-enum-told7) → let a = c .before .before .before .before .before .before .before .before .before .before .before .before .before .before .before .args in pauliRangeOf (a .d) (decode (a .n) (a .p .now)) ≡ 0
+past-range c = good _ (rw (c .before .before .before .read .ensures) at (c .before .before .range .ensures)) (c .enum-told7 .given .1)
 
 pub run-check-spec : {M : Type 1} → statement M
 run-check-spec = tie.close (tie.spec
@@ -35,21 +32,17 @@ run-check-spec = tie.close (tie.spec
     (λ c. search needs)  -- enum-told-3
     (λ c. search needs)  -- enum-told-4
     (λ c. rw (past-given (c .before .before .before)) (stop _ _ (c .before .before .list-size .ensures) (c .enum-told4 .given .1) .same))  -- returns-2
-    (λ c. search needs)  -- mul-want
-    (λ c. search needs)  -- add-want
-    (λ c. search needs)  -- mul-want-2
-    (λ c κs. search needs)  -- size-requires
+    (λ c κs. search needs)  -- lent-requires
     (λ c. search needs)  -- enum-told-5
     (λ c. search needs)  -- enum-told-6
-    (λ c. rw (past-given (c .before .before .before .before .before .before), past-rows (c .before .before .before)) (stop _ _ (c .before .before .size .ensures) (c .enum-told6 .given .1) .same))  -- returns-3
-    (λ c κs. search needs)  -- room-requires
+    (λ c. let a = c .before .before .before .before .before .before .before .before .before .before .before .args in
+    rw (past-given (c .before .before .before .before .before .before), past-rows (c .before .before .before)) (stop-first _ _ (sym (orElse-assoc (sizeOf (pauliBytes (a .n)) (length (a .p .now))) (roomOf (pauliBytes (a .n)) (a .room)) _)) (c .before .before .lent .ensures) (c .enum-told6 .given .1) .same))  -- returns-3
+    (λ c κs. let g = given-good (past-given (c .before .before .before .before .before .before)) in let s = size-good (past-p c .0) in search needs)  -- read-requires
+    (λ c κs. let g = given-good (past-given (c .before .before .before .before .before .before .before)) in search needs)  -- range-requires
     (λ c. search needs)  -- enum-told-7
     (λ c. search needs)  -- enum-told-8
-    (λ c. rw (past-given (c .before .before .before .before .before .before .before .before .before), past-rows (c .before .before .before .before .before .before), past-p (c .before .before .before)) (stop _ _ (c .before .before .room .ensures) (c .enum-told8 .given .1) .same))  -- returns-4
-    (λ c κs. let g = given-good (past-given (c .before .before .before .before .before .before .before .before .before)) in let s = size-good (past-p (c .before .before .before)) in search needs)  -- read-requires
-    (λ c κs. let g = given-good (past-given (c .before .before .before .before .before .before .before .before .before .before)) in search needs)  -- range-requires
-    (λ c. search needs)  -- enum-told-9
-    (λ c. search needs)  -- enum-told-10
-    (λ c. rw (past-given (c .before .before .before .before .before .before .before .before .before .before .before .before .before), past-rows (c .before .before .before .before .before .before .before .before .before .before), past-p (c .before .before .before .before .before .before .before), past-room (c .before .before .before .before)) (stop _ _ (rw (c .before .before .before .read .ensures) at (c .before .before .range .ensures)) (c .enum-told10 .given .1) .same))  -- returns-5
-    (λ c κs. given-good (past-given (c .before .before .before .before .before .before .before .before .before .before .before .before .before)) .dimension)  -- list-legal-requires
-    (λ c. rw (past-given (c .before .before .before .before .before .before .before .before .before .before .before .before .before .before), past-rows (c .before .before .before .before .before .before .before .before .before .before .before), past-p (c .before .before .before .before .before .before .before .before), past-room (c .before .before .before .before .before), past-range (c .before)) (c .list-legal .ensures)))  -- returns-6
+    (λ c. let p = past-p (c .before .before .before .before) in
+    rw (past-given (c .before .before .before .before .before .before .before .before .before .before), past-rows (c .before .before .before .before .before .before .before), p .0, p .1) (stop _ _ (rw (c .before .before .before .read .ensures) at (c .before .before .range .ensures)) (c .enum-told8 .given .1) .same))  -- returns-4
+    (λ c κs. given-good (past-given (c .before .before .before .before .before .before .before .before .before .before)) .dimension)  -- list-legal-requires
+    (λ c. let p = past-p (c .before .before .before .before .before) in
+    rw (past-given (c .before .before .before .before .before .before .before .before .before .before .before), past-rows (c .before .before .before .before .before .before .before .before), p .0, p .1, past-range (c .before)) (c .list-legal .ensures)))  -- returns-5

@@ -5,7 +5,7 @@ use Prim.Native.Nat.{ℕ, zero, suc, _+_, _*_, _-_, _%_, _^_, _≤_, _<_}
 use native.Mathlib.Nat.{mul-le-mul, mul-assoc}
 use Rattle.arith.proofs.Cong.{Cong}
 use Rattle.arith.proofs.Ring.{ring₂, quote}
-use Rattle.pauli.proofs.Entries.{scaled-tab}
+use Rattle.pauli.proofs.Entries.{scaled-tab, product-below}
 use Rattle.pauli.proofs.Group.{power-closed, next-square}
 use Rattle.pauli.proofs.Ranges.{pauli-path}
 use native.Mathlib.Omega.{arith}
@@ -21,22 +21,19 @@ even k = let z = half k in (z .0, omega (arith, z .1, next-square k))
     half zero = (0, omega arith)
     half (suc k) = let z = half k in (z .0 + k, omega (arith, z .1))
 
-even-twist : (d k h m x : ℕ) → 0 < d → Cong (2 * d) (k * h % (2 * d) + 2 * (m * (x % d)) % (2 * d)) (k * h + 2 * (m * x))
+even-twist : (d k h m x : ℕ) → 0 < d → Cong (2 * d) (2 * (m * (x % d)) + k * h) (k * h + 2 * (m * x))
 even-twist d k h m x pos = ring₂ d (k ∷ h ∷ m ∷ x ∷ []) pos (search quote depth 30) (search quote depth 30) tt
 
-power-phase : (d k h : ℕ) {r p q o t s x : ℕ} → 0 < d → r ≡ (p + q) % (2 * d) → p ≡ k * h % (2 * d) → q ≡ o * t % (2 * d) → o ≡ k * (k - 1) → t ≡ s % d → s ≡ x → r ≡ (k * h + k * (k - 1) * x) % (2 * d)
-power-phase d k h {x = x} pos e f g i j l =
+power-phase : (d k h : ℕ) {r o t s x : ℕ} → 0 < d → r ≡ (o * t + k * h) % (2 * d) → o ≡ k * (k - 1) → t ≡ s % d → s ≡ x → r ≡ (k * h + k * (k - 1) * x) % (2 * d)
+power-phase d k h {x = x} pos e i j l =
     let z = even k in
-    rw (e, f, g, i, j, l, z .1, mul-assoc 2 (z .0) (x % d), mul-assoc 2 (z .0) x) (even-twist d k h (z .0) x pos .same)
+    rw (e, i, j, l, z .1, mul-assoc 2 (z .0) (x % d), mul-assoc 2 (z .0) x) (even-twist d k h (z .0) x pos .same)
 
-twists-below : (o t : ℕ) → o < 4294967296 → t < 65536 → o * t < 2 ^ 64
+twists-below : (o t : ℕ) → o < 4294967296 → t < 65536 → o * t < 2 ^ 63
 twists-below o t ho ht =
     let a : o ≤ 4294967295 = omega arith in
     let b : t ≤ 65535 = omega arith in
     omega (arith, mul-le-mul a b)
-
-mul-reduced : tie.Need-mul-reduced
-mul-reduced c = omega (arith, twists-below (c .before .ordered-pairs .result) (c .before .before .reduced .result .0) (c .before .ordered-pairs .ensures .1) (search needs))
 
 pub power-spec : {M : Type 1} → statement M
 power-spec = tie.close (tie.spec
@@ -46,12 +43,15 @@ power-spec = tie.close (tie.spec
     (λ c κs. search needs)  -- reduced-requires
     (λ c κs. search needs)  -- ordered-pairs-requires
     (λ c. search needs)  -- cast-reduced
-    mul-reduced
+    (λ c. omega (arith, twists-below (c .before .ordered-pairs .result) (c .before .before .before .reduced .result .0) (c .before .ordered-pairs .ensures .1) (search needs)))  -- mul-reduced
+    (λ c. search needs)  -- cast-reduced-2
+    (λ c. let a = c .before .before .before .before .before .before .before .before .before .before .args in
+    omega (arith, product-below (a .k) (a .self .phase .0) (search needs) (search needs)))  -- mul-reduced-2
+    (λ c. let a = c .before .before .before .before .before .before .before .before .before .before .args in
+    omega (arith, twists-below (c .before .before .ordered-pairs .result) (c .before .before .before .before .reduced .result .0) (c .before .before .ordered-pairs .ensures .1) (search needs), product-below (a .k) (a .self .phase .0) (search needs) (search needs)))  -- add-reduced
     (λ c κs. search needs)  -- reduced-requires-2
-    (λ c κs. search needs)  -- times-requires
-    (λ c κs. search needs)  -- plus-requires
-    (λ c. let m = c .before .before .before .before .before .before .before .before in
+    (λ c. let m = c .before .before .before .before .before .before .before in
     let s = m .before .before .before .before in
-    pauli-path (power-phase _ _ _ (omega arith) (c .plus .ensures) (c .before .times .ensures) (c .before .before .before .reduced2 .ensures) (c .before .before .before .before .before .ordered-pairs .ensures .0) (c .before .before .before .before .before .before .reduced .ensures) (c .before .before .before .before .before .before .before .sum-of-products .ensures .0))
+    pauli-path (power-phase _ _ _ (omega arith) (c .reduced2 .ensures) (c .before .before .before .ordered-pairs .ensures .0) (c .before .before .before .before .before .reduced .ensures) (c .before .before .before .before .before .before .sum-of-products .ensures .0))
     (m .before .multiples .ensures ∙ sym (scaled-tab _ _ _ _)) (m .multiples2 .ensures ∙ sym (scaled-tab _ _ _ _))
     ∙ sym (power-closed (s .args .d) (s .args .n) (s .args .k) (omega arith) (s .pre .1))))  -- returns

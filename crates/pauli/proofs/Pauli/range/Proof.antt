@@ -5,14 +5,6 @@ use borrow.Author.Needs.{needs}
 use Rattle.pauli.proofs.Pauli.range.Statement.{statement}
 use Rattle.pauli.proofs.Pauli.range.Tie as tie
 
-returns-2 : tie.Need-returns-2
-unfolding pauliRangeOf
-returns-2 c = rw (good _ (c .before .before .before .before .before .range .ensures) (c .before .before .before .enum-told .given .1)) (stop _ _ (c .before .before .bounds .ensures) (c .enum-told4 .given .1) .same)
-
-returns-3 : tie.Need-returns-3
-unfolding pauliRangeOf
-returns-3 c = rw (good _ (c .before .before .before .before .before .before .range .ensures) (c .before .before .before .before .enum-told .given .1), good _ (c .before .before .before .bounds .ensures) (c .before .enum-told3 .given .1)) (c .bounds2 .ensures)
-
 pub range-spec : {M : Type 1} → statement M
 unfolding pauliRangeOf
 range-spec = tie.close (tie.spec
@@ -22,8 +14,4 @@ range-spec = tie.close (tie.spec
     (λ c. search needs)  -- enum-told-2
     (λ c. stop _ _ (c .before .before .range .ensures) (c .enum-told2 .given .1) .same)  -- returns
     (λ c κs. search needs)  -- bounds-requires
-    (λ c. search needs)  -- enum-told-3
-    (λ c. search needs)  -- enum-told-4
-    returns-2
-    (λ c κs. search needs)  -- bounds-requires-2
-    returns-3)
+    (λ c. rw (good _ (c .before .before .before .range .ensures) (c .before .enum-told .given .1)) (c .bounds .ensures)))  -- returns-2

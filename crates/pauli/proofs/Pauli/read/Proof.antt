@@ -1,18 +1,37 @@
--- `pauli::Pauli::read` meets its contract, part by part.
+-- `pauli::Pauli::read` meets its contract, part by part: its numbers are the bytes', from the first place on.
+use mathlib.Core.Path.{_≡_, refl, ap, _∙_}
+use mathlib.Core.List.{List}
+use Prim.Native.Nat.{ℕ, _+_, _*_, _≤_, _<_}
+use lib.ListN.{getD}
+use Rattle.arith.specs.Bytes.{tab, numberAt, numbersAt}
+use Rattle.arith.proofs.Bytes.{tab-ext}
 use Rattle.pauli.proofs.Ranges.{pauli-path}
+use native.Mathlib.Omega.{arith}
 use borrow.Author.Needs.{needs}
 use Rattle.pauli.proofs.Pauli.read.Statement.{statement}
 use Rattle.pauli.proofs.Pauli.read.Tie as tie
 
+-- n of the numbers, from place s on
+taken : (a b : List ℕ) (k n s t : ℕ) → ((i : ℕ) → i < 1 + 2 * n → getD a i 0 ≡ numberAt b (k + i)) → s ≤ 1 + n → t ≡ k + s → tab (λ i. getD a (s + i) 0) n ≡ numbersAt b t n
+taken a b k n s t h l e = tab-ext (λ i. getD a (s + i) 0) (λ i. numberAt b (t + i)) n (λ i m. let q : k + (s + i) ≡ t + i = omega arith in h (s + i) (omega arith) ∙ ap (numberAt b) q)
+
 returns : tie.Need-returns
-returns c = pauli-path (c .before .before .get .ensures) (c .before .read-entries .ensures) (c .read-entries2 .ensures)
+returns c =
+    let a = c .before .before .before .before .before .before .args in
+    let r = c .before .before .before .before .read-numbers .result in
+    let e = c .before .before .before .before .read-numbers .ensures in
+    let z : a .k + 0 ≡ a .k = omega arith in
+    pauli-path (e 0 (omega arith) ∙ ap (numberAt (a .b .now)) z)
+    (c .before .before .entries-from .ensures (a .n) (omega arith) ∙ taken r (a .b .now) (a .k) (a .n) 1 (a .k + 1) e (omega arith) refl)
+    (c .entries-from2 .ensures (a .n) (omega arith) ∙ taken r (a .b .now) (a .k) (a .n) (1 + a .n) (a .k + 1 + a .n) e (omega arith) (omega arith))
 
 pub read-spec : {M : Type 1} → statement M
 read-spec = tie.close (tie.spec
-    (λ c κs. search needs)  -- get-requires
-    (λ c. search needs)  -- add-read-entries
-    (λ c κs. search needs)  -- read-entries-requires
-    (λ c. search needs)  -- add-read-entries-2
-    (λ c. search needs)  -- add-read-entries-3
-    (λ c κs. search needs)  -- read-entries-requires-2
+    (λ c. search needs)  -- mul-read-numbers
+    (λ c. search needs)  -- add-read-numbers
+    (λ c κs. search needs)  -- read-numbers-requires
+    (λ c κs. search needs)  -- entries-from-requires
+    (λ c. search needs)  -- add-entries-from
+    (λ c κs. search needs)  -- entries-from-requires-2
+    (λ c. search needs)  -- array-read-t14
     returns)
