@@ -9,7 +9,7 @@ use lib.ListN.{length, getD, set, replicate, length-set, length-replicate}
 use lib.Seq.{getD-set-same, getD-set-other, ext-getD}
 use Rattle.arith.specs.Bytes.{tab}
 use Rattle.arith.specs.declared.residue.Residue.{Residue}
-use Rattle.arith.proofs.Bytes.{tab-more, tab-ext, tab-length, tab-at}
+use Rattle.arith.proofs.Bytes.{tab-none, tab-more, tab-ext, tab-length, tab-at}
 use Rattle.arith.proofs.Cases.{by-eq}
 use Rattle.pauli.specs.Pauli.{dot, plus}
 use Rattle.pauli.specs.View.{at, entries}
@@ -32,6 +32,24 @@ fill-more f xs i x h e p = tab-more (at (set xs i x)) i ∙ ap₂ (λ (l : List 
   where
     same : entries i (set xs i x) ≡ entries i xs
     same = tab-ext (at (set xs i x)) (at xs) i (λ j l. at-other xs i j x (λ q. omega arith))
+
+-- a loop that fills two arrays of 16: those before place i hold f and g
+pub record Filled (f g : ℕ → ℕ) (i : ℕ) (v w : List Residue) : Type 0 where
+  pub v-places : length v ≡ 16
+  pub w-places : length w ≡ 16
+  pub v-filled : entries i v ≡ tab f i
+  pub w-filled : entries i w ≡ tab g i
+
+pub filled-none : (f g : ℕ → ℕ) {v w : List Residue} → length v ≡ 16 → length w ≡ 16 → Filled f g 0 v w
+filled-none f g h k = record { v-places = h; w-places = k; v-filled = tab-none _ ∙ sym (tab-none f); w-filled = tab-none _ ∙ sym (tab-none g) }
+
+pub filled-more : (f g : ℕ → ℕ) (i : ℕ) {v w : List Residue} (x z : Residue) → i < 16 → x .0 ≡ f i → z .0 ≡ g i → Filled f g i v w → Filled f g (i + 1) (set v i x) (set w i z)
+filled-more f g i {v} {w} x z l e k h = record {
+  v-places = simp length-set (h .v-places);
+  w-places = simp length-set (h .w-places);
+  v-filled = fill-more f v i x (omega (arith, h .v-places)) e (h .v-filled);
+  w-filled = fill-more g w i z (omega (arith, h .w-places)) k (h .w-filled);
+}
 
 -- one entry set, of the array and of the list that it stands for
 pub entries-set : (n : ℕ) (xs : List Residue) (i : ℕ) (x : Residue) → i < length xs → entries n (set xs i x) ≡ set (entries n xs) i (x .0)

@@ -2,13 +2,13 @@
 use arith::checks::Check;
 use arith::residue::Residue;
 ghost use mathlib.Core.Path.{_≡_};
-ghost use Prim.Native.Nat.{ℕ, _+_, _*_, _%_, _≤_, _<_};
+ghost use Prim.Native.Nat.{ℕ, _+_, _*_, _≤_, _<_};
 ghost use lib.ListN.{getD};
 ghost use Rattle.arith.specs.Bytes.{tab};
 ghost use Rattle.arith.specs.Refusals.{Dimension, checked, orElse, rangeOf};
-ghost use Rattle.pauli.specs.Pauli.{dot, plus};
+ghost use Rattle.pauli.specs.Pauli.{dot};
 ghost use Rattle.pauli.specs.Range.{boundsOf};
-ghost use Rattle.pauli.specs.View.{at, entries};
+ghost use Rattle.pauli.specs.View.{entries};
 
 // The product of two entries, not reduced.
 fn whole_product(x: Residue, y: Residue) -> u64
@@ -27,32 +27,6 @@ pub fn sum_of_products(a: [Residue; 16], b: [Residue; 16], n: usize) -> u64
         sum += whole_product(a[i], b[i]);
     }
     sum
-}
-
-// The sums modulo d, entry by entry.
-pub fn sums(a: [Residue; 16], b: [Residue; 16], d: u16, n: usize) -> [Residue; 16]
-    requires { ⌜ Dimension d × (n ≤ 16) ⌝ }
-    ensures { λ r. ⌜ entries n r ≡ plus d (entries n a) (entries n b) ⌝ }
-{
-    let mut out = [Residue(0); 16];
-    for i in 0..n {
-        let x = a[i];
-        out[i] = x.plus(b[i], d);
-    }
-    out
-}
-
-// The multiples k·x modulo d, entry by entry.
-pub fn multiples(k: u16, a: [Residue; 16], d: u16, n: usize) -> [Residue; 16]
-    requires { ⌜ Dimension d × (n ≤ 16) ⌝ }
-    ensures { λ r. ⌜ entries n r ≡ tab (λ i. k * at a i % d) n ⌝ }
-{
-    let factor = Residue(k);
-    let mut out = [Residue(0); 16];
-    for i in 0..n {
-        out[i] = factor.times(a[i], d);
-    }
-    out
 }
 
 // The larger of two numbers: it is out of range where one of the two is.

@@ -4,11 +4,12 @@ use arith::checks::Check;
 use arith::residue::Phase;
 use arith::residue::Residue;
 ghost use mathlib.Core.Path.{_≡_};
-ghost use Prim.Native.Nat.{ℕ, _*_, _-_, _≤_, _<_};
+ghost use Prim.Native.Nat.{ℕ, _*_, _-_, _%_, _≤_, _<_};
+ghost use Rattle.arith.specs.Bytes.{tab};
 ghost use Rattle.arith.specs.Refusals.{Dimension, checked};
-ghost use Rattle.pauli.specs.Pauli.{InRange, product, phaseOnly, power, comm, unit, parity};
+ghost use Rattle.pauli.specs.Pauli.{InRange, plus, product, phaseOnly, power, comm, unit, parity};
 ghost use Rattle.pauli.specs.Range.{pauliRangeOf, pairRangeOf};
-ghost use Rattle.pauli.specs.View.{view};
+ghost use Rattle.pauli.specs.View.{at, entries, view};
 
 // k·(k − 1): the pairs of two of k copies, each pair in both orders. An even number.
 fn ordered_pairs(k: u16) -> u64
@@ -53,26 +54,63 @@ impl Pauli {
         }
     }
 
-    // (δ, v, w) times (ε, s, t): phase δ + ε + 2·(w·s), entries v + s and w + t.
-    pub fn product(self, other: Pauli, d: u16, n: usize) -> Pauli
+    // The sums of the entries modulo d, under another phase. One loop makes v and w, so that both are stored before either is copied: a copy waits for the store before it.
+    fn summed(self, other: Pauli, phase: Phase, d: u16, n: usize) -> Pauli
         requires { ⌜ Dimension d × (n ≤ 16) ⌝ }
-        ensures { λ r. ⌜ view n r ≡ product d (view n self) (view n other) ⌝ }
+        ensures { λ r. ⌜ view n r ≡ record { phase = phase .0; v = plus d (entries n (self .v)) (entries n (other .v)); w = plus d (entries n (self .w)) (entries n (other .w)) } ⌝ }
     {
         let v = self.v;
         let w = self.w;
         let s = other.v;
         let t = other.w;
-        let twist = Phase::reduced(2 * crate::arrays::sum_of_products(w, s, n), d);
-        let delta = self.phase;
-        let epsilon = other.phase;
-        let phase = delta.plus(epsilon, d).plus(twist, d);
-        let vs = crate::arrays::sums(v, s, d, n);
-        let wt = crate::arrays::sums(w, t, d, n);
+        let mut vs = [Residue(0); 16];
+        let mut wt = [Residue(0); 16];
+        for i in 0..n {
+            let x = v[i];
+            let z = w[i];
+            vs[i] = x.plus(s[i], d);
+            wt[i] = z.plus(t[i], d);
+        }
         Pauli {
             phase: phase,
             v: vs,
             w: wt,
         }
+    }
+
+    // The multiples k·v and k·w modulo d, under another phase; in one loop as above.
+    fn scaled(self, k: u16, phase: Phase, d: u16, n: usize) -> Pauli
+        requires { ⌜ Dimension d × (n ≤ 16) ⌝ }
+        ensures { λ r. ⌜ view n r ≡ record { phase = phase .0; v = tab (λ i. k * at (self .v) i % d) n; w = tab (λ i. k * at (self .w) i % d) n } ⌝ }
+    {
+        let v = self.v;
+        let w = self.w;
+        let factor = Residue(k);
+        let mut kv = [Residue(0); 16];
+        let mut kw = [Residue(0); 16];
+        for i in 0..n {
+            kv[i] = factor.times(v[i], d);
+            kw[i] = factor.times(w[i], d);
+        }
+        Pauli {
+            phase: phase,
+            v: kv,
+            w: kw,
+        }
+    }
+
+    // (δ, v, w) times (ε, s, t): phase δ + ε + 2·(w·s), entries v + s and w + t.
+    pub fn product(self, other: Pauli, d: u16, n: usize) -> Pauli
+        requires { ⌜ Dimension d × (n ≤ 16) ⌝ }
+        ensures { λ r. ⌜ view n r ≡ product d (view n self) (view n other) ⌝ }
+    {
+        let w = self.w;
+        let s = other.v;
+        let twist = Phase::reduced(2 * crate::arrays::sum_of_products(w, s, n), d);
+        let delta = self.phase;
+        let epsilon = other.phase;
+        let phase = delta.plus(epsilon, d).plus(twist, d);
+        self.summed(other, phase, d, n)
     }
 
     // The product of k copies, at once: phase k·δ + k·(k − 1)·(w·v), entries k·v and k·w. As k·(k − 1) is even, w·v may be reduced modulo d there.
@@ -83,19 +121,13 @@ impl Pauli {
     {
         let v = self.v;
         let w = self.w;
-        let kv = crate::arrays::multiples(k, v, d, n);
-        let kw = crate::arrays::multiples(k, w, d, n);
         let twist = Residue::reduced(crate::arrays::sum_of_products(w, v, n), d);
         let delta = self.phase;
         let phase = Phase::reduced(
             ordered_pairs(k) * (twist.0 as u64) + (k as u64) * (delta.0 as u64),
             d,
         );
-        Pauli {
-            phase: phase,
-            v: kv,
-            w: kw,
-        }
+        self.scaled(k, phase, d, n)
     }
 
     // The commutation number of (δ, v, w) and (ε, s, t): w·s − v·t.

@@ -1,5 +1,5 @@
 -- `pauli::Pauli::product` meets its contract, part by part: the phase is reduced after each sum.
-use mathlib.Core.Path.{_≡_}
+use mathlib.Core.Path.{_≡_, refl, _∙_}
 use mathlib.Core.List.{[], _∷_}
 use Prim.Native.Nat.{ℕ, _+_, _*_, _%_, _<_}
 use Rattle.arith.proofs.Cong.{Cong}
@@ -17,7 +17,10 @@ product-phase : (d a b : ℕ) {r p q s x : ℕ} → 0 < d → r ≡ (p + q) % (2
 product-phase d a b {x = x} pos e f g h = rw (e, f, g, h) (reduced-sum d a b x pos .same)
 
 returns : tie.Need-returns
-returns c = pauli-path (product-phase _ _ _ (omega arith) (c .before .before .plus2 .ensures) (c .before .before .before .plus .ensures) (c .before .before .before .before .before .before .reduced .ensures) (c .before .before .before .before .before .before .before .sum-of-products .ensures .0)) (c .before .sums .ensures) (c .sums2 .ensures)
+returns c =
+    let sum = c .before .before .before .before .before in
+    c .summed .ensures
+    ∙ pauli-path (product-phase _ _ _ (omega arith) (c .before .plus2 .ensures) (c .before .before .plus .ensures) (sum .reduced .ensures) (sum .before .sum-of-products .ensures .0)) refl refl
 
 pub product-spec : {M : Type 1} → statement M
 product-spec = tie.close (tie.spec
@@ -26,6 +29,5 @@ product-spec = tie.close (tie.spec
     (λ c κs. search needs)  -- reduced-requires
     (λ c κs. search needs)  -- plus-requires
     (λ c κs. search needs)  -- plus-requires-2
-    (λ c κs. search needs)  -- sums-requires
-    (λ c κs. search needs)  -- sums-requires-2
+    (λ c κs. search needs)  -- summed-requires
     returns)

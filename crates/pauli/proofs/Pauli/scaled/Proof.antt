@@ -1,0 +1,41 @@
+-- `pauli::Pauli::scaled` meets its contract. The invariant: the entries filled are the multiples (`Filled`).
+use mathlib.Core.Path.{_≡_, refl}
+use Prim.Native.Nat.{_*_, _-_, _%_, _≤_}
+use Rattle.pauli.specs.View.{at}
+use Rattle.pauli.proofs.Entries.{Filled, filled-none, filled-more}
+use Rattle.pauli.proofs.Ranges.{pauli-path}
+use native.Mathlib.Omega.{arith}
+use borrow.Author.Needs.{needs}
+use Rattle.pauli.proofs.Pauli.scaled.Statement.{statement}
+use Rattle.pauli.proofs.Pauli.scaled.Tie as tie
+
+abbrev Inv-loop : tie.InvT-loop
+Inv-loop k phase d n v w factor kv₀ kw₀ i₀ kv kw i = (i ≤ n) × Filled (λ j. k * at v j % d) (λ j. k * at w j % d) i kv kw
+
+abbrev μ-loop : tie.MeasureT-loop
+μ-loop k phase d n v w factor kv₀ kw₀ i₀ kv kw i = n - i
+
+returns : tie.Need-returns Inv-loop μ-loop
+returns c =
+    let l = c .before .loop in
+    let e : l .i ≡ c .before .before .before .before .args .n = omega arith in
+    pauli-path refl (rw e at (l .inv .1 .v-filled)) (rw e at (l .inv .1 .w-filled))
+
+pub scaled-spec : {M : Type 1} → statement M
+scaled-spec = tie.close (tie.spec Inv-loop μ-loop
+    (λ c. (omega arith, filled-none _ _ refl refl))  -- loop-holds
+    (λ c. search needs)  -- mul-times
+    (λ c. search needs)  -- array-copy-out-times
+    (λ c κs. search needs)  -- times-requires
+    (λ c. search needs)  -- mul-kv
+    (λ c. search needs)  -- array-set-from-kv
+    (λ c. search needs)  -- mul-times-2
+    (λ c. search needs)  -- array-copy-out-times-2
+    (λ c κs. search needs)  -- times-requires-2
+    (λ c. search needs)  -- mul-kw
+    (λ c. search needs)  -- array-set-from-kw
+    (λ c. search needs)  -- add-i
+    (λ c. search needs)  -- loop-less
+    (λ c. let l = c .before .before .before .before .before .loop in
+    (omega arith, filled-more _ _ (l .i) _ _ (omega arith) (c .before .before .times .ensures) (c .times2 .ensures) (l .inv .1)))  -- loop-again
+    returns)
