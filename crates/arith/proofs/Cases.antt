@@ -5,7 +5,7 @@ use mathlib.Core.Logic.{_≢_}
 use Prim.Native.Nat.{ℕ, _≤_, _<_}
 use lib.Dec.{T, T-not, eqb, eqb→eq, eqb-refl, ltb, ltb→lt, nltb→le}
 
-bool-case : (P : Bool → Type 0) (b : Bool) → (T b → P true) → (T (not b) → P false) → P b
+pub bool-case : (P : Bool → Type 0) (b : Bool) → (T b → P true) → (T (not b) → P false) → P b
 bool-case P true f g = f tt
 bool-case P false f g = g tt
 

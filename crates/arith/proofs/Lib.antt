@@ -9,6 +9,7 @@ pub mod Remainders
 pub mod Ring
 pub mod RingExamples
 pub mod Units
+pub mod Quotient
 pub mod Refusals
 pub mod Bytes
 pub mod Examples

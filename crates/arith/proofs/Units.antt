@@ -1,14 +1,17 @@
--- What Unit.antt computes: the first number below a bound, the inverse of a unit, the least multiplier.
+-- What specs/Units.antt computes: the first number below a bound, the inverse of a unit, the least multiplier.
 use mathlib.Core.Path.{_≡_, refl, sym, _∙_, ap, subst}
 use mathlib.Core.Bool.{Bool, true, false, not, cond}
-use Prim.Native.Nat.{ℕ, zero, suc, _+_, _*_, _%_, _<_}
-use native.Mathlib.Nat.{mul-comm, mod-eq-of-lt}
+use mathlib.Core.Logic.{_≢_}
+use Prim.Native.Nat.{ℕ, zero, suc, _+_, _*_, _%_, _≤_, _<_}
+use native.Mathlib.Nat.{mul-comm, mul-one, mod-eq-of-lt, mod-self}
 use native.Mathlib.Omega.{arith}
 use lib.Dec.{T, T-not, eqb, eqb→eq, eqb-refl}
+use Rattle.arith.proofs.Cases.{by-less}
 use Rattle.arith.proofs.Cong.{Cong, cong-eq, cong-trans, cong-of-eq}
-use Rattle.arith.proofs.Divides.{dvd-one, dvd-mul-l, dvd-resp}
+use Rattle.arith.proofs.Divides.{dvd-refl, dvd-zero, dvd-one, dvd-mul-l, dvd-resp}
+use Rattle.arith.proofs.Remainders.{mod-of}
 use Rattle.arith.specs.Gcd.{gcd}
-use Rattle.arith.proofs.Gcd.{gcd-left, gcd-right, inverse, gcd-zero-left, inverse-unique}
+use Rattle.arith.proofs.Gcd.{gcd-left, gcd-right, gcd-unique, inverse, gcd-zero-left, inverse-unique}
 use Rattle.arith.proofs.Multiplier.{multiplier}
 use Rattle.arith.proofs.First.{First, none-more, first-unique}
 use Rattle.arith.specs.Units.{fits, firstFrom, firstBelow, inverseOf, leastMultiplier}
@@ -31,11 +34,47 @@ firstFrom-law test (suc n) k j l t h = go (test k) refl (λ f. firstFrom-law tes
         let r = rec (none-more test k h (subst (λ (b : Bool). T (not b)) (sym e) tt)) in
         record { first = r .first; below = omega (arith, r .below) }
 
-firstBelow-law : (test : ℕ → Bool) (bound j : ℕ) → j < bound → T (test j) → FirstUnder test bound (firstBelow test bound)
+pub firstBelow-law : (test : ℕ → Bool) (bound j : ℕ) → j < bound → T (test j) → FirstUnder test bound (firstBelow test bound)
 unfolding firstBelow
 firstBelow-law test bound j l t =
     let r = firstFrom-law test bound 0 j (omega arith) t (λ i k. absurd (omega arith)) in
     record { first = r .first; below = omega (arith, r .below) }
+
+-- where 0 passes, it is the first
+pub first-zero : (test : ℕ → Bool) (bound : ℕ) → 0 < bound → T (test 0) → firstBelow test bound ≡ 0
+first-zero test bound p t = first-unique (firstBelow-law test bound 0 p t .first) (record { passes = t; none-before = λ i l. absurd (omega arith) })
+
+-- a search never goes past its bound, and ends below it only at a number that passes
+at-most-from : (test : ℕ → Bool) (n k : ℕ) → firstFrom test n k ≤ k + n
+at-most-from test zero k = omega arith
+at-most-from test (suc n) k = go (test k) (at-most-from test n (suc k))
+  where
+    go : (b : Bool) → firstFrom test n (suc k) ≤ suc k + n → cond b k (firstFrom test n (suc k)) ≤ k + suc n
+    go true rec = omega arith
+    go false rec = omega arith
+
+found-from : (test : ℕ → Bool) (n k : ℕ) → firstFrom test n k < k + n → T (test (firstFrom test n k))
+found-from test zero k l = absurd (omega arith)
+found-from test (suc n) k l = go (test k) refl l (λ m. found-from test n (suc k) m)
+  where
+    go : (b : Bool) → test k ≡ b → cond b k (firstFrom test n (suc k)) < k + suc n → (firstFrom test n (suc k) < suc k + n → T (test (firstFrom test n (suc k))))
+        → T (test (cond b k (firstFrom test n (suc k))))
+    go true e l rec = subst T (sym e) tt
+    go false e l rec = rec (omega arith)
+
+pub first-most : (test : ℕ → Bool) (bound : ℕ) → firstBelow test bound ≤ bound
+unfolding firstBelow
+first-most test bound = omega (arith, at-most-from test bound 0)
+
+pub first-passes : (test : ℕ → Bool) (bound : ℕ) → firstBelow test bound < bound → T (test (firstBelow test bound))
+unfolding firstBelow
+first-passes test bound l = found-from test bound 0 (omega arith)
+
+-- where no number below the bound passes, it is the bound
+pub first-none : (test : ℕ → Bool) (bound : ℕ) → ((j : ℕ) → j < bound → T (test j) → ⊥) → firstBelow test bound ≡ bound
+first-none test bound h = by-less (firstBelow test bound) bound
+    (λ l. absurd (h (firstBelow test bound) l (first-passes test bound l)))
+    (λ l. omega (arith, first-most test bound))
 
 -- ---- the inverse of a unit
 module _ (d q : ℕ) (large : 1 < d) (unit : gcd q d ≡ 1) where
@@ -52,6 +91,9 @@ module _ (d q : ℕ) (large : 1 < d) (unit : gcd q d ≡ 1) where
   pub inverse-times : Cong d (q * inverseOf d q) 1
   inverse-times = record { same = eqb→eq (q * inverseOf d q % d) 1 (inverse-found .first .passes) ∙ sym (mod-eq-of-lt large) }
 
+  pub scaled-one : inverseOf d q * q % d ≡ 1
+  scaled-one = mod-of (inverseOf d q * q) (cong-trans (cong-of-eq (mul-comm (inverseOf d q) q)) inverse-times) large
+
 -- a unit is positive
 pub unit-pos : (d k : ℕ) → 1 < d → gcd k d ≡ 1 → 0 < k
 unit-pos d zero large e = absurd (omega (arith, gcd-zero-left d))
@@ -67,6 +109,23 @@ module _ (d q : ℕ) (large : 1 < d) (unit : gcd q d ≡ 1) where
   -- the only one below d
   pub inverse-only : (u : ℕ) → u < d → Cong d (q * u) 1 → u ≡ inverseOf d q
   inverse-only u l h = cong-eq (inverse-unique q (omega arith) (cong-trans (cong-of-eq (mul-comm u q)) h) (cong-trans (cong-of-eq (mul-comm (inverseOf d q) q)) (inverse-times d q large unit))) l (inverse-below d q large unit)
+
+pub inverse-one : (d v : ℕ) → 1 < d → v ≡ 1 → inverseOf d v ≡ 1
+inverse-one d v l e = ap (inverseOf d) e ∙ sym (inverse-only d 1 l (dvd-one (gcd-left 1 d)) 1 l (cong-of-eq (omega arith)))
+
+-- the inverse of an inverse that isn't 1 isn't 1, for any v, unit or not
+pub inverse-twice : (d v : ℕ) → 1 < d → inverseOf d v ≢ 1 → inverseOf d (inverseOf d v) ≢ 1
+unfolding inverseOf
+inverse-twice d v l ne e =
+    let x = inverseOf d v in
+    let hit : x * inverseOf d x % d ≡ 1 = eqb→eq (x * inverseOf d x % d) 1 (first-passes (λ y. eqb (x * y % d) 1) d (omega arith)) in
+    let one : x % d ≡ 1 = ap (λ (y : ℕ). y % d) (sym (mul-one x) ∙ ap (λ (y : ℕ). x * y) (sym e)) ∙ hit in
+    by-less x d
+    (λ m. ne (sym (mod-eq-of-lt m) ∙ one))
+    (λ m. full x one (omega (arith, first-most (λ y. eqb (v * y % d) 1) d)))
+  where
+    full : (x : ℕ) → x % d ≡ 1 → x ≡ d → ⊥
+    full x f g = let z : d % d ≡ 1 = ap (λ (y : ℕ). y % d) (sym g) ∙ f in omega (arith, mod-self d)
 
 -- ---- the least multiplier
 module _ (d a b : ℕ) (pos : 0 < d) where
@@ -86,6 +145,14 @@ module _ (d a b : ℕ) (pos : 0 < d) where
   -- the first number that fits is this one
   pub least-unique : (m : ℕ) → First (fits a b d) m → m ≡ leastMultiplier d a b
   least-unique m f = first-unique f (least-found .first)
+
+-- where b is 0, the first number fits
+pub least-zero : (d a b : ℕ) → 0 < d → b ≡ 0 → leastMultiplier d a b ≡ 0
+unfolding leastMultiplier
+least-zero d a b p e = first-zero (fits a b d) d p (subst (λ (x : ℕ). T (eqb (gcd x d) (gcd (gcd a b) d))) (omega arith) (subst (λ (x : ℕ). T (eqb (gcd a d) (gcd x d))) (sym same) (eqb-refl (gcd a d))))
+  where
+    same : gcd a b ≡ a
+    same = ap (gcd a) e ∙ gcd-unique (dvd-refl a) (dvd-zero a) (λ c h k. h)
 
 -- what the loop of a program needs: while none of the numbers below k fits, k is below d
 pub still-below : (a b d k : ℕ) → 0 < d → ((j : ℕ) → j < k → T (not (fits a b d j))) → k < d

@@ -1,4 +1,4 @@
--- Units, their inverses and the least multiplier (document 01, "Residues"): each is the first number, counted from 0, that passes a test.
+-- Units, their inverses, the least multiplier (document 01, "Residues") and quotients: each is the first number, counted from 0, that passes a test.
 use mathlib.Core.Path.{_≡_}
 use mathlib.Core.Bool.{Bool, cond}
 use Prim.Native.Nat.{ℕ, zero, suc, _+_, _*_, _%_}
@@ -28,3 +28,11 @@ fits a b d m = eqb (gcd (a + m * b) d) (gcd (gcd a b) d)
 -- the least multiplier of a and b: the first m, counted from 0, that fits
 unfoldable pub leastMultiplier : ℕ → ℕ → ℕ → ℕ
 leastMultiplier d a b = firstBelow (fits a b d) d
+
+-- b is a multiple of a modulo d: gcd(a, d) divides b
+unfoldable pub divides : ℕ → ℕ → ℕ → Bool
+divides d a b = eqb (b % gcd a d) 0
+
+-- the quotient of b by a: the first c below d with c·a = b modulo d; d where there is none
+unfoldable pub quotient : ℕ → ℕ → ℕ → ℕ
+quotient d a b = firstBelow (λ c. eqb (c * a % d) (b % d)) d
