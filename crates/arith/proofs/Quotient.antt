@@ -2,6 +2,7 @@
 use mathlib.Core.Path.{_≡_, refl, sym, _∙_, ap, subst}
 use mathlib.Core.Bool.{Bool, true, false, not}
 use mathlib.Core.List.{[], _∷_}
+use mathlib.Core.Logic.{_≢_}
 use Prim.Native.Nat.{ℕ, zero, suc, _+_, _*_, _-_, _/_, _%_, _<_}
 use native.Mathlib.Nat.{mod-lt, mod-add-div', zero-mod, mul-assoc, mul-comm}
 use native.Mathlib.Omega.{arith}
@@ -11,7 +12,7 @@ use Rattle.arith.proofs.Cong.{Cong, cong-intro, cong-of-eq, cong-trans,
 use Rattle.arith.specs.Residues.{neg}
 use Rattle.arith.proofs.Ring.{ring₁, quote}
 use Rattle.arith.proofs.Remainders.{mod-of}
-use Rattle.arith.proofs.Divides.{Dvd, dvd-zero, dvd-mul-l, dvd-resp, dvd-rest, dvd-cong, cong-dvd, dvd-unscale, dvd-as}
+use Rattle.arith.proofs.Divides.{Dvd, dvd-zero, dvd-pos, dvd-mul-l, dvd-resp, dvd-rest, dvd-cong, cong-dvd, dvd-unscale, dvd-as}
 use Rattle.arith.specs.Gcd.{gcd}
 use Rattle.arith.proofs.Gcd.{gcd-left, gcd-right, bezout}
 use Rattle.arith.proofs.First.{first-unique}
@@ -129,6 +130,27 @@ quotient-euclid d a b e q u pos de bq h = first-unique (quotient-found d a b pos
         let back : i + (c - i) ≡ c = omega arith in
         let y = euclid-only d a b (gcd a d) e (gcd-left a d .q) q u pos de (gcd-left a d .eq) bq h i (c - i) (subst (λ (y : ℕ). Cong d (y * a) b) (sym back) times) (record { same = z }) (omega arith) in
         omega arith
+
+-- as code computes it, with g and u from Euclid's algorithm
+module _ (d a : ℕ) {g : ℕ} (of-g : g ≡ gcd a d) (pos : 0 < d) where
+  pub divisor-pos : 0 < g
+  divisor-pos = rw of-g (dvd-pos pos (gcd-right a d))
+
+  part : (x : ℕ) → x % g ≡ 0 → x ≡ gcd a d * (x / g)
+  part x e = omega (arith, mod-add-div' x g) ∙ ap (λ (y : ℕ). y * (x / g)) of-g
+
+  whole : d ≡ gcd a d * (d / g)
+  whole = part d (rw of-g (dvd-cong (gcd-right a d) .same ∙ zero-mod (gcd a d)))
+
+  pub modulus-pos : 0 < d / g
+  modulus-pos = factor-pos (gcd a d) (d / g) pos whole .1
+
+  pub quotient-computed : (b u : ℕ) → b % g ≡ 0 → u * a % d ≡ gcd a d % d → b / g * u % (d / g) ≡ quotient d a b
+  quotient-computed b u e h = sym (quotient-euclid d a b (d / g) (b / g) u pos whole (part b e) (record { same = h }))
+
+  pub quotient-missing : (b : ℕ) → b % g ≢ 0 → d ≡ quotient d a b
+  unfolding divides
+  quotient-missing b ne = sym (quotient-none d a b pos (eqb-case (λ (t : Bool). t ≡ false) (b % gcd a d) 0 (λ e. absurd (ne (ap (λ (y : ℕ). b % y) of-g ∙ e))) (λ o. refl)))
 
 -- ---- negatives
 pub minus-sum : (d w : ℕ) → 0 < d → Cong d (w + neg d w % d) 0

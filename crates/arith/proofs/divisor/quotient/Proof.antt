@@ -1,0 +1,27 @@
+-- `arith::divisor::quotient` meets its contract, by `quotient-euclid`. The divisor of a positive d is positive, and so is d over it; the product of two 16-bit numbers fits.
+use mathlib.Core.Path.{sym, _∙_}
+use Prim.Native.Nat.{_/_, _≤_}
+use native.Mathlib.Nat.{mul-le-mul, div-le-self}
+use Rattle.arith.proofs.Quotient.{quotient-zero, divisor-pos, modulus-pos, quotient-computed, quotient-missing}
+use native.Mathlib.Omega.{arith}
+use borrow.Author.Needs.{needs}
+use Rattle.arith.proofs.divisor.quotient.Statement.{statement}
+use Rattle.arith.proofs.divisor.quotient.Tie as tie
+
+pub quotient-spec : {M : Type 1} → statement M
+quotient-spec = tie.close (tie.spec
+    (λ c. let z = c .before .before .args in sym (quotient-zero (z .d) (z .a .0) (z .b .0) (omega arith) (omega arith)))  -- returns
+    (λ c κs. search needs)  -- euclid-requires
+    (λ c. search needs)  -- cast-y
+    (λ c. let z = c .before .before .before .before .args in divisor-pos (z .d) (z .a .0) (c .before .euclid .ensures .0) (omega arith))  -- rem-if2
+    (λ c. let z = c .before .before .before .before .before .args in quotient-missing (z .d) (z .a .0) (c .before .before .euclid .ensures .0) (omega arith) (z .b .0) (λ e. omega arith))  -- returns-2
+    (λ c. let z = c .before .before .before .before .before .before .args in divisor-pos (z .d) (z .a .0) (c .before .before .before .euclid .ensures .0) (omega arith))  -- div-modulus
+    (λ c. let z = c .before .before .before .before .before .before .args in divisor-pos (z .d) (z .a .0) (c .before .before .before .euclid .ensures .0) (omega arith))  -- div-remainder
+    (λ c. search needs)  -- cast-remainder
+    (λ c. let z = c .before .before .before .before .before .before .before .args in let r = c .before .before .before .before .euclid .result in
+    let h : z .b .0 / r .divisor ≤ 65535 = omega (arith, div-le-self (z .b .0) (r .divisor)) in
+    let k : r .factor .0 ≤ 65535 = search needs in
+    omega (arith, mul-le-mul h k))  -- mul-remainder
+    (λ c κs. let z = c .before .before .before .before .before .before .before .args in let r = c .before .before .before .before .euclid in omega (arith, modulus-pos (z .d) (z .a .0) (r .ensures .0) (omega arith), div-le-self (z .d) (r .result .divisor)))  -- remainder-requires
+    (λ c. let z = c .before .before .before .before .before .before .before .before .args in let r = c .before .before .before .before .before .euclid in
+    c .remainder .ensures ∙ quotient-computed (z .d) (z .a .0) (r .ensures .0) (omega arith) (z .b .0) (r .result .factor .0) (omega arith) (r .ensures .2)))  -- returns-3
