@@ -1,10 +1,14 @@
 //! Calls per second of the library and of the reference on the same inputs,
 //! the stack that each call of the library uses, and the rows of synthesis, as
 //! one Markdown table. BENCH_MS is the least time of a round.
+//!
+//! Then, in tables of their own, how long the lists of the library's synthesis
+//! are, and what time it takes on 16 qudits. The lists are counted without a
+//! clock, so those figures are the same in every run.
 
 use library::{library, reference as reference_call, Layout, Lent, Name, Numbers, NAMES};
-use reference::calls;
 use reference::random::Random;
+use reference::{calls, Row};
 use std::hint::black_box;
 
 /// Different inputs for each line of the table, used in turn.
@@ -165,12 +169,9 @@ fn stack_used(input: &Input, out: &mut [u8]) -> usize {
     job.caller - (stack.as_ptr() as usize + untouched)
 }
 
-// ----------------------------------------------------------------------- main
+// ---------------------------------------------------------------------- calls
 
-fn main() {
-    let milliseconds = std::env::var("BENCH_MS")
-        .ok()
-        .map_or(2, |text| text.parse().expect("BENCH_MS is no number"));
+fn print_calls(milliseconds: u32) {
     println!(
         "Lists have {LIST_ROWS} rows, tableaus few zeros. Outputs are not cleared between calls. \
          Both sides are built for release; best of {ROUNDS} rounds of at least {milliseconds} ms \
@@ -221,4 +222,164 @@ fn main() {
             }
         }
     }
+}
+
+// ---------------------------------------------------------------------- lists
+
+const RANDOM_DIMENSIONS: [u16; 5] = [2, 3, 6, 97, 1024];
+const SPARSE_DIMENSIONS: [u16; 4] = [2, 6, 97, 1024];
+const MOST_QUDITS: u16 = 16;
+const SINGLE_ROWS: usize = 300;
+const SHORT_LISTS: usize = 200;
+const SHORT_LIST_ROWS: usize = 10;
+
+/// The same tableaus are counted and timed.
+fn random_tableaus(d: u16, n: u16) -> Vec<Input> {
+    let mut random = Random::new(2, (d as u64) << 16 | n as u64);
+    (0..if n <= 8 { 100 } else { 40 })
+        .map(|_| input(Name::Synthesis, d, n, &mut random))
+        .collect()
+}
+
+/// The tableaus of given lists.
+fn tableaus_of(lists: &[Vec<Row>], d: u16, n: u16) -> Vec<Input> {
+    let (dim, wide) = (d as i64, n as usize);
+    lists
+        .iter()
+        .map(|rows| Input {
+            name: Name::Synthesis,
+            numbers: Numbers { d, n, a: 0, b: 0 },
+            first: calls::bytes_of_tableau(&reference::tableau_of_list(rows, dim, wide)),
+            second: vec![],
+        })
+        .collect()
+}
+
+/// Each row starts in the first tick after the last one that used any of its
+/// qudits, so rows on separate qudits run at once. (`clifford_ticks` has
+/// another rule: a tick for each row.)
+fn ticks(rows: &[Row]) -> usize {
+    let mut last = [0; MOST_QUDITS as usize + 1];
+    for row in rows {
+        let i = row.first as usize;
+        let j = if row.kind == reference::A {
+            row.second as usize
+        } else {
+            i
+        };
+        let now = 1 + last[i].max(last[j]);
+        (last[i], last[j]) = (now, now);
+    }
+    last.into_iter().max().unwrap()
+}
+
+/// Mean and worst number of rows, A rows and ticks of the library's lists, as
+/// the cells of a line.
+fn list_cells(inputs: &[Input]) -> String {
+    let counts: Vec<[usize; 3]> = inputs
+        .iter()
+        .map(|input| {
+            let mut out = vec![0; input.name.room(input.numbers.n as usize)];
+            let answer = call_library(input, &mut out);
+            assert_eq!(answer.number, 0, "a bench call was refused");
+            let rows = calls::rows_of_bytes(&out[..calls::ROW_LEN * answer.value as usize]);
+            let a_rows = rows.iter().filter(|row| row.kind == reference::A).count();
+            [rows.len(), a_rows, ticks(&rows)]
+        })
+        .collect();
+    let cells = [0, 1, 2].map(|what| {
+        let all = counts.iter().map(|count| count[what]);
+        let mean = all.clone().sum::<usize>() as f64 / counts.len() as f64;
+        format!("{mean:.1} | {}", all.max().unwrap())
+    });
+    cells.join(" | ")
+}
+
+const LIST_COLUMNS: &str = "rows, mean | rows, worst | A rows, mean | A rows, worst \
+                            | ticks, mean | ticks, worst |\n\
+                            |---|---|---|---|---|---|---|---|";
+
+fn print_lists_of_random_tableaus() {
+    println!("\n## Lists of random tableaus\n");
+    println!(
+        "The lists of the library for 100 random tableaus with few zeros, 40 for n = 16. Ticks: \
+         rows on separate qudits run at once.\n"
+    );
+    println!("| n | d | {LIST_COLUMNS}");
+    for n in [1, 2, 4, 8, MOST_QUDITS] {
+        for d in RANDOM_DIMENSIONS {
+            println!("| {n} | {d} | {} |", list_cells(&random_tableaus(d, n)));
+        }
+    }
+}
+
+fn print_lists_of_sparse_operations() {
+    let n = MOST_QUDITS;
+    println!("\n## Lists of sparse operations\n");
+    println!(
+        "The lists of the library for operations on {n} qudits: the identity, {SINGLE_ROWS} single \
+         rows of each kind, and {SHORT_LISTS} lists of {SHORT_LIST_ROWS} rows, all random and \
+         legal.\n"
+    );
+    println!("| operation | d | {LIST_COLUMNS}");
+    let line = |what: &str, d: u16, lists: &[Vec<Row>]| {
+        println!(
+            "| {what} | {d} | {} |",
+            list_cells(&tableaus_of(lists, d, n))
+        );
+    };
+    for d in SPARSE_DIMENSIONS {
+        line("identity", d, &[vec![]]);
+    }
+    for (kind, letter) in (reference::F..=reference::Z).zip(["F", "S", "A", "M", "X", "Z"]) {
+        for d in SPARSE_DIMENSIONS {
+            let mut random = Random::new(3, (d as u64) << 16 | kind as u64);
+            let mut any_row = || random.row(d as i64, n as usize);
+            let lists: Vec<Vec<Row>> = std::iter::repeat_with(|| vec![any_row()])
+                .filter(|rows| rows[0].kind == kind)
+                .take(SINGLE_ROWS)
+                .collect();
+            line(&format!("one {letter} row"), d, &lists);
+        }
+    }
+    for d in SPARSE_DIMENSIONS {
+        let mut random = Random::new(4, d as u64);
+        let lists: Vec<Vec<Row>> = (0..SHORT_LISTS)
+            .map(|_| random.rows(SHORT_LIST_ROWS, d as i64, n as usize))
+            .collect();
+        line(&format!("{SHORT_LIST_ROWS} random rows"), d, &lists);
+    }
+}
+
+fn print_time_of_synthesis(time: f64) {
+    let n = MOST_QUDITS;
+    println!("\n## Time of synthesis on {n} qudits\n");
+    println!(
+        "Microseconds for a call, the mean over the random tableaus counted above for n = {n}; \
+         best of {ROUNDS} rounds of processor time.\n"
+    );
+    println!("| d | library, µs | reference, µs | ratio |");
+    println!("|---|---|---|---|");
+    let mut out = vec![0; Name::Synthesis.room(n as usize)];
+    for d in RANDOM_DIMENSIONS {
+        let (own, other) = both(&random_tableaus(d, n), &mut out, time);
+        println!(
+            "| {d} | {:.1} | {:.1} | {:.2} |",
+            1e6 / own,
+            1e6 / other,
+            own / other
+        );
+    }
+}
+
+// ----------------------------------------------------------------------- main
+
+fn main() {
+    let milliseconds = std::env::var("BENCH_MS")
+        .ok()
+        .map_or(2, |text| text.parse().expect("BENCH_MS is no number"));
+    print_calls(milliseconds);
+    print_lists_of_random_tableaus();
+    print_lists_of_sparse_operations();
+    print_time_of_synthesis(milliseconds as f64 / 1000.0);
 }

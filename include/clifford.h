@@ -213,8 +213,14 @@ uint16_t clifford_tableau(uint16_t d, uint16_t n,
  * The value is the count of rows, at most 5n^2 + 6n. They stand at the start
  * of out, 8 bytes a row; bytes after the last row don't change. All rows are
  * legal. The list carries every Pauli, phase included, to its image under the
- * tableau; so its tableau is the given one. Which list it is may change from
- * one version of the library to the next.
+ * tableau; so its tableau is the given one.
+ *
+ * Which list it is, is free: it may change from one version of the library to
+ * the next, and with it what this paragraph says. In this version the identity
+ * gives the empty list, and no list has a row that does nothing. There are at
+ * most 9n(n + 1)/2 rows, for a prime d n(5n + 9)/2, and at most 3 of kind A
+ * between any two qudits. One row comes back as one row (at an even d some S
+ * as S and Z), ten random rows on 16 qudits as about ten.
  *
  * Refusals: 1 dimension; 2 width; 3 length of tableau; 4 room: out_len is
  * below 40n^2 + 48n, however short the list would be; 5 range: a number of

@@ -10,12 +10,12 @@ use lib.ListN.{length, getD, List·getD-append}
 use lib.Dec.{leb, eqb}
 use borrow.Author.Tests.{leb-true, eqb-true, eqb-false, not-true, le-leb, eq-eqb, ne-eqb}
 use Rattle.arith.specs.Gcd.{gcd}
-use Rattle.arith.specs.Units.{Unit as IsUnit}
+use Rattle.arith.specs.Units.{Unit as IsUnit, inverseOf}
 use Rattle.arith.specs.Bytes.{tab, numberAt}
 use Rattle.arith.proofs.Bytes.{tab-more, tab-ext, tab-list, number-bytes, bytes-length}
 use Rattle.arith.proofs.Refusals.{both-held}
-use Rattle.gates.specs.Row.{Row, F, S, A, M, X, Z, OneQudit, TwoQudits, Legal, AllLegal, none, more}
-use Rattle.gates.specs.Written.{WrittenRow, onOne, onTwo, written, rowOfKind, meant, between, highest, legalPower, takesTwo, legalSecond, legalRow, allLegalRows, rowAt, listRows, rowsOf, rowNumbers, listNumbers, encodeRows}
+use Rattle.gates.specs.Row.{Row, F, S, A, M, X, Z, OneQudit, TwoQudits, Legal, AllLegal, none, more, undo}
+use Rattle.gates.specs.Written.{WrittenRow, withPower, onOne, onTwo, written, rowOfKind, meant, between, highest, legalPower, takesTwo, legalSecond, legalRow, allLegalRows, rowAt, listRows, rowsOf, rowNumbers, listNumbers, encodeRows}
 
 -- ---- two tests in a row: the second decides, or the first fails
 pub second-decides : {a b r : Bool} → a ≡ true → r ≡ b → r ≡ (a && b)
@@ -114,6 +114,9 @@ module _ (d n : ℕ) (w : WrittenRow) (legal : legalRow d n w ≡ true) where
   pub legal-unit : w .kind ≡ 4 → IsUnit d (w .power)
   legal-unit e = eqb-true (gcd (w .power) d) 1 (rw e at (tests d n w legal .unit))
 
+  pub legal-highest : w .power ≤ highest d (w .kind)
+  legal-highest = tests d n w legal .power-high
+
   pub legal-kind : highest d (w .kind) ≡ 0 → ⊥
   legal-kind e = let t = tests d n w legal in omega arith
 
@@ -154,6 +157,46 @@ meant-written {j = j} kind-z t = meant-one j t (t .second)
 pub written-meant : (d n : ℕ) (w : WrittenRow) → legalRow d n w ≡ true → written (meant w) ≡ w
 unfolding meant
 written-meant d n w e = let t = tests d n w e in meant-written (t .sort) t
+
+-- ---- the row that undoes it, by the power
+pub highest-small : (d kind : ℕ) → highest d kind ≤ 2 * d + 3
+highest-small d zero = omega arith
+highest-small d (suc zero) = omega arith
+highest-small d (suc (suc zero)) = omega arith
+highest-small d (suc (suc (suc zero))) = omega arith
+highest-small d (suc (suc (suc (suc zero)))) = omega arith
+highest-small d (suc (suc (suc (suc (suc zero))))) = omega arith
+highest-small d (suc (suc (suc (suc (suc (suc zero)))))) = omega arith
+highest-small d (suc (suc (suc (suc (suc (suc (suc kind))))))) = omega arith
+
+undone-m : (d : ℕ) (r : Row) → written r .kind ≡ 4 → withPower (written r) (inverseOf d (written r .power)) ≡ written (undo d r)
+undone-m d (F i k) e = absurd (omega arith)
+undone-m d (S i k) e = absurd (omega arith)
+undone-m d (A i j k) e = absurd (omega arith)
+undone-m d (M i k) e = refl
+undone-m d (X i k) e = absurd (omega arith)
+undone-m d (Z i k) e = absurd (omega arith)
+
+undone : (d : ℕ) → 0 < d → (r : Row) → written r .kind ≢ 4 → withPower (written r) (highest d (written r .kind) + 1 - written r .power) ≡ written (undo d r)
+undone d p (F i k) ne = refl
+undone d p (S i k) ne = ap (onOne 2 i) (omega arith)
+undone d p (A i j k) ne = ap (onTwo 3 i j) (omega arith)
+undone d p (M i k) ne = absurd (ne refl)
+undone d p (X i k) ne = ap (onOne 5 i) (omega arith)
+undone d p (Z i k) ne = ap (onOne 6 i) (omega arith)
+
+module _ (d n : ℕ) (w : WrittenRow) (legal : legalRow d n w ≡ true) where
+  same : written (meant w) ≡ w
+  same = written-meant d n w legal
+
+  kind-same : written (meant w) .kind ≡ w .kind
+  kind-same = ap (λ (v : WrittenRow). v .kind) same
+
+  pub undo-m : w .kind ≡ 4 → withPower w (inverseOf d (w .power)) ≡ written (undo d (meant w))
+  undo-m e = sym (ap (λ (v : WrittenRow). withPower v (inverseOf d (v .power))) same) ∙ undone-m d (meant w) (kind-same ∙ e)
+
+  pub undo-other : 0 < d → w .kind ≢ 4 → withPower w (highest d (w .kind) + 1 - w .power) ≡ written (undo d (meant w))
+  undo-other p ne = sym (ap (λ (v : WrittenRow). withPower v (highest d (v .kind) + 1 - v .power)) same) ∙ undone d p (meant w) (λ e. ne (sym kind-same ∙ e))
 
 -- ---- what a row is written as means that row
 pub meant-of-written : (r : Row) → meant (written r) ≡ r

@@ -15,6 +15,10 @@ pub record WrittenRow : Type 0 where
   pub second : ℕ
   pub power : ℕ
 
+-- a row with another power
+abbrev pub withPower : WrittenRow → ℕ → WrittenRow
+withPower w k = record { kind = w .kind; first = w .first; second = w .second; power = k }
+
 -- ---- what a row is written as: a kind on one qudit, and on two
 abbrev pub onOne : ℕ → ℕ → ℕ → WrittenRow
 onOne kind i k = record { kind = kind; first = i + 1; second = 0; power = k }

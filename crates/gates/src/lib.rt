@@ -9,8 +9,8 @@ ghost use Rattle.arith.specs.Refusals.{Dimension};
 ghost use Rattle.arith.specs.Units.{Unit};
 ghost use Rattle.pauli.specs.View.{view};
 ghost use Rattle.pauli.specs.Touched.{viewTouched};
-ghost use Rattle.gates.specs.Row.{apply};
-ghost use Rattle.gates.specs.Written.{meant, between, highest, takesTwo, legalPower, legalSecond, legalRow};
+ghost use Rattle.gates.specs.Row.{apply, undo};
+ghost use Rattle.gates.specs.Written.{withPower, written, meant, between, highest, takesTwo, legalPower, legalSecond, legalRow};
 ghost use Rattle.gates.specs.View.{viewRow, InverseRight, otherOf, Acts};
 
 pub mod calls;
@@ -99,6 +99,30 @@ impl Row {
             }
         }
         false
+    }
+
+    // The same row with another power.
+    fn with_power(self, k: u16) -> Row
+        ensures { λ r. ⌜ viewRow r ≡ withPower (viewRow self) k ⌝ }
+    {
+        Row {
+            kind: self.kind,
+            first: self.first,
+            second: self.second,
+            power: k,
+        }
+    }
+
+    // The row that undoes a legal one: the two powers add up to one more than the kind's highest, but for M, whose power is inverted.
+    pub fn undo(self, d: u16) -> Row
+        requires { ⌜ Dimension d × ((n : ℕ) × (legalRow d n (viewRow self) ≡ true)) ⌝ }
+        ensures { λ r. ⌜ viewRow r ≡ written (undo d (meant (viewRow self))) ⌝ }
+    {
+        let kind = self.kind;
+        match kind {
+            4 => self.with_power(arith::divisor::inverse(Residue(self.power), d).0),
+            _ => self.with_power(highest_power(kind, d) + 1 - self.power),
+        }
     }
 
     // The row with what its effect needs besides.

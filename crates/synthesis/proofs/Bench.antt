@@ -4,13 +4,13 @@ use mathlib.Core.List.{[], _∷_, List}
 use Prim.Native.Nat.{ℕ}
 use Rattle.arith.specs.Residues.{neg}
 use Rattle.arith.specs.Refusals.{pairingOf, parityOf}
-use Rattle.arith.specs.Gcd.{gcd}
-use Rattle.arith.specs.Units.{firstBelow, inverseOf, leastMultiplier}
+use Rattle.arith.specs.Gcd.{gcd, euclid}
+use Rattle.arith.specs.Units.{firstBelow, inverseOf, leastMultiplier, divides, quotient}
 use Rattle.pauli.specs.Pauli.{Pauli, product, power, unitX, unitZ}
 use Rattle.gates.specs.Row.{F, S, A, Z, apply}
 use Rattle.tableau.specs.Tableau.{tableauOf}
 use Rattle.tableau.specs.Soundness.{soundnessOf}
-use Rattle.synthesis.specs.Reduce.{synthesised}
+use Rattle.synthesis.specs.Reduce.{nearPower, straighten, gathered, firstColumn, partnerStraightened, partnerTurned, secondColumn, stage, reduce, synthesised}
 
 -- a Pauli of one qudit
 abbrev pauli : ℕ → ℕ → ℕ → Pauli
@@ -64,5 +64,5 @@ abbrev pub c12 : Type 0
 c12 = tableauOf 4 1 (S 0 4 ∷ []) ≡ tableauOf 4 1 (Z 0 2 ∷ [])
 
 pub bench : c1 × c2 × c3 × c4 × c5 × c6 × c7 × c8 × c9 × c10 × c11 × c12
-unfolding synthesised leastMultiplier inverseOf firstBelow gcd neg pairingOf parityOf
+unfolding synthesised reduce stage secondColumn partnerTurned partnerStraightened firstColumn gathered straighten nearPower divides quotient leastMultiplier inverseOf firstBelow gcd euclid neg pairingOf parityOf
 bench = (refl, refl, refl, refl, refl, refl, (refl, refl), (refl, refl, refl, refl), refl, (refl, refl), refl, refl)

@@ -1,126 +1,129 @@
--- How many rows the reduction makes: at most 3·n·n + 6·n.
-use mathlib.Core.Bool.{cond}
-use mathlib.Core.Path.{_≡_}
-use mathlib.Core.List.{List, [], _∷_}
-use Prim.Native.Nat.{ℕ, zero, suc, _+_, _*_, _-_, _/_, _%_, _≤_}
+-- What the rows of a step weigh, by any weights: at most `a i j` for an A row between qudits i < j and at most `o` for any other row. The first half of a stage, and
+-- the phases.
+use mathlib.Core.Bool.{Bool, cond}
+use mathlib.Core.List.{List}
+use mathlib.Core.Logic.{_≢_}
+use Prim.Native.Nat.{ℕ, zero, suc, _+_, _*_, _-_, _/_, _%_, _≤_, _<_}
+use native.Mathlib.Nat.{mod-lt}
 use native.Mathlib.Omega.{arith}
-use lib.ListN.{length, length-map}
-use lib.Dec.{eqb}
-use Rattle.arith.specs.Units.{leastMultiplier}
+use lib.Dec.{eqb, ltb}
+use Rattle.arith.proofs.Cases.{bool-case}
+use Rattle.arith.specs.Units.{leastMultiplier, inverseOf, divides, quotient}
 use Rattle.pauli.specs.Pauli.{Pauli}
-use Rattle.gates.specs.Row.{Row, S, A, M, X, Z, undo}
+use Rattle.gates.specs.Row.{Row, F, S, A, M, X, Z}
 use Rattle.tableau.specs.Tableau.{upFrom, column}
-use Rattle.synthesis.specs.Reduce.{State, put, putZ, each, later, minus, wAt, vAt, gatherInQudit, gatherQudit, pivot, clearW, fourierOnce, clearV, shear, clearPartnerW, clearPartnerV, partnerShear, fourierBack, firstColumn, secondColumn, stage, phases, reduce, synthesised}
-use Rattle.synthesis.proofs.Reached.{choose-case}
+use Rattle.synthesis.specs.Reduce.{State, put, nearPower, putA, putS, putZ, vAt, wAt, minus, each, later, gatherW, exchange, clearW, straighten, gather, scale, clearV, phases}
+use Rattle.synthesis.specs.Measures.{weigh}
+use Rattle.synthesis.proofs.Reached.{Reached, choose-case}
 
-abbrev pub count : State → ℕ
-count s = length (s .rows)
+-- the rows that the reduction puts, and what they weigh at most
+pub record Weights (d : ℕ) (w : Row → ℕ) (a : ℕ → ℕ → ℕ) (o : ℕ) : Type 0 where
+  pub large : 0 < d
+  pub of-f : (i : ℕ) → w (F i 1) ≤ o
+  pub of-f3 : (i : ℕ) → w (F i 3) ≤ o
+  pub of-s : (i k : ℕ) → k ≢ 0 → k < d → w (S i (nearPower d k)) ≤ o
+  pub of-a : (i j k : ℕ) → i < j → k ≢ 0 → w (A i j k) ≤ a i j
+  pub of-a-back : (i j k : ℕ) → i < j → k ≢ 0 → w (A j i k) ≤ a i j
+  pub of-m : (i v : ℕ) → inverseOf d v ≢ 1 → w (M i (inverseOf d v)) ≤ o
+  pub of-x : (i k : ℕ) → k ≢ 0 → w (X i k) ≤ o
+  pub of-z : (i k : ℕ) → k ≢ 0 → w (Z i k) ≤ o
 
--- a step that makes at most k rows
-pub record Adds (k : ℕ) (s s′ : State) : Type 0 where
-  pub most : count s′ ≤ k + count s
+-- f k + f (k + 1) + .., m of them
+abbrev pub total : (ℕ → ℕ) → ℕ → ℕ → ℕ
+total f k zero = 0
+total f k (suc m) = f k + total f (suc k) m
 
-maybe : (k m : ℕ) (r : Row) (d : ℕ) (s : State) → Adds 1 s (cond (eqb k m) s (put d r s))
-maybe k m r d s = choose-case (λ (x : State). Adds 1 s x) k m s (put d r s) (λ e. record { most = omega arith }) (λ ne. record { most = omega arith })
+module _ (w : Row → ℕ) where
+  -- a step whose rows weigh at most k
+  pub record Adds (k : ℕ) (s s′ : State) : Type 0 where
+    pub most : weigh w (s′ .rows) ≤ k + weigh w (s .rows)
 
-then : {k l : ℕ} (s s′ s″ : State) → Adds k s s′ → Adds l s′ s″ → Adds (k + l) s s″
-then s s′ s″ a b = record { most = omega (arith, a .most, b .most) }
+module _ {w : Row → ℕ} where
+  pub maybe : (k m o : ℕ) (r : Row) (d : ℕ) (s : State) → (k ≢ m → w r ≤ o) → Adds w o s (cond (eqb k m) s (put d r s))
+  maybe k m o r d s h = choose-case (λ (x : State). Adds w o s x) k m s (put d r s) (λ e. record { most = omega arith }) (λ ne. record { most = omega (arith, h ne) })
 
-each-adds : (f : ℕ → State → State) (k a m : ℕ) (s : State) → ((j : ℕ) (s : State) → Adds k s (f j s)) → Adds (k * m) s (each f (upFrom a m) s)
-each-adds f k a zero s h = record { most = omega arith }
-each-adds f k a (suc m) s h = record { most = omega (arith, h a s .most, each-adds f k (suc a) m (f a s) h .most) }
+  pub always : (o : ℕ) (r : Row) (d : ℕ) (s : State) → w r ≤ o → Adds w o s (put d r s)
+  always o r d s h = record { most = omega arith }
 
-adds : {k : ℕ} (l : ℕ) (s s′ : State) → k ≤ l → Adds k s s′ → Adds l s s′
-adds l s s′ h a = record { most = omega (arith, a .most) }
+  pub nothing : (k : ℕ) (s : State) → Adds w k s s
+  nothing k s = record { most = omega arith }
 
-module _ (d n t : ℕ) where
-  in-qudit : (j : ℕ) (s : State) → Adds 1 s (gatherInQudit d n t j s)
-  in-qudit j s = let k = leastMultiplier d (wAt n s t j) (vAt n s t j) in maybe k 0 (S j k) d s
+  pub then : {k l : ℕ} (s s′ s″ : State) → Adds w k s s′ → Adds w l s′ s″ → Adds w (k + l) s s″
+  then s s′ s″ a b = record { most = omega (arith, a .most, b .most) }
 
-  qudit : (j : ℕ) (s : State) → Adds 1 s (gatherQudit d n t j s)
-  qudit j s = let k = minus d (leastMultiplier d (wAt n s t t) (wAt n s t j)) in maybe k 0 (A t j k) d s
+  pub adds : {k : ℕ} (l : ℕ) (s s′ : State) → k ≤ l → Adds w k s s′ → Adds w l s s′
+  adds l s s′ h a = record { most = omega (arith, a .most) }
 
-  w-cleared : (j : ℕ) (s : State) → Adds 1 s (clearW d n t j s)
-  w-cleared j s = let k = minus d (wAt n s t j) in maybe k 0 (A j t k) d s
+  pub each-adds : (f : ℕ → State → State) (k a m : ℕ) (s : State) → ((j : ℕ) (s : State) → Adds w k s (f j s)) → Adds w (k * m) s (each f (upFrom a m) s)
+  each-adds f k a zero s h = record { most = omega arith }
+  each-adds f k a (suc m) s h = record { most = omega (arith, h a s .most, each-adds f k (suc a) m (f a s) h .most) }
 
-  v-cleared : (j : ℕ) (s : State) → Adds 1 s (clearV d n t j s)
-  v-cleared j s = let k = minus d (vAt n s t j) in maybe k 0 (A t j k) d s
+  -- a loop whose turn j weighs at most c j
+  pub each-turn-adds : (f : ℕ → State → State) (c : ℕ → ℕ) (k m : ℕ) (s : State) → ((j : ℕ) (s : State) → k ≤ j → Adds w (c j) s (f j s)) → Adds w (total c k m) s (each f (upFrom k m) s)
+  each-turn-adds f c k zero s h = record { most = omega arith }
+  each-turn-adds f c k (suc m) s h = record { most = omega (arith, h k s (omega arith) .most, each-turn-adds f c (suc k) m (f k s) (λ j s′ l. h j s′ (omega arith)) .most) }
 
-  partner-w : (j : ℕ) (s : State) → Adds 1 s (clearPartnerW d n t j s)
-  partner-w j s = let k = wAt n s (n + t) j % d in maybe k 0 (A j t k) d s
+module _ {d : ℕ} {w : Row → ℕ} {a : ℕ → ℕ → ℕ} {o : ℕ} (h : Weights d w a o) (n : ℕ) where
+  pub shear-adds : (i k : ℕ) (s : State) → Adds w o s (putS d i k s)
+  shear-adds i k s = maybe (k % d) 0 o (S i (nearPower d (k % d))) d s (λ ne. h .of-s i (k % d) ne (mod-lt k (h .large)))
 
-  partner-v : (j : ℕ) (s : State) → Adds 1 s (clearPartnerV d n t j s)
-  partner-v j s = let k = vAt n s (n + t) j % d in maybe k 0 (A t j k) d s
+  pub a-adds : (i j k : ℕ) (s : State) → i < j → Adds w (a i j) s (putA d i j k s)
+  a-adds i j k s l = maybe k 0 (a i j) (A i j k) d s (λ ne. h .of-a i j k l ne)
 
-  pivoted : (s : State) → Adds 1 s (pivot d n t s)
-  pivoted s = let k = minus d (wAt n s t t) in maybe k 1 (M t k) d s
+  pub a-back-adds : (i j k : ℕ) (s : State) → i < j → Adds w (a i j) s (putA d j i k s)
+  a-back-adds i j k s l = maybe k 0 (a i j) (A j i k) d s (λ ne. h .of-a-back i j k l ne)
 
-  sheared : (s : State) → Adds 1 s (shear d n t s)
-  sheared s = let k = minus d (wAt n s t t) in maybe k 0 (S t k) d s
+  pub clear-adds : (c j : ℕ) (s : State) → Adds w o s (clearW d n c j s)
+  clear-adds c j s = shear-adds j (quotient d (vAt n s c j) (minus d (wAt n s c j))) s
 
-  partner-sheared : (s : State) → Adds 1 s (partnerShear d n t s)
-  partner-sheared s = let k = wAt n s (n + t) t % d in maybe k 0 (S t k) d s
+  pub exchange-adds : (c j : ℕ) (s : State) → Adds w o s (exchange d n c j s)
+  exchange-adds c j s = bool-case (λ (b : Bool). Adds w o s (put d (F j (cond b 1 3)) s)) (ltb d (2 * wAt n s c j))
+      (λ e. always o (F j 1) d s (h .of-f j)) (λ e. always o (F j 3) d s (h .of-f3 j))
 
-  turned : (s : State) → Adds 1 s (fourierOnce d n t s)
-  turned s = record { most = omega arith }
+  straighten-adds : (c j : ℕ) (s : State) → Adds w (3 * o) s (straighten d n c j s)
+  unfolding straighten
+  straighten-adds c j s =
+      let s1 = gatherW d n c j s in
+      let s2 = exchange d n c j s1 in
+      let a1 = shear-adds j (leastMultiplier d (wAt n s c j) (vAt n s c j)) s in
+      bool-case (λ (b : Bool). Adds w (3 * o) s (clearW d n c j (cond b s s2))) (divides d (vAt n s c j) (wAt n s c j))
+      (λ e. adds (3 * o) s (clearW d n c j s) (omega arith) (clear-adds c j s))
+      (λ e. adds (3 * o) s (clearW d n c j s2) (omega arith) (then s s2 (clearW d n c j s2) (then s s1 s2 a1 (exchange-adds c j s1)) (clear-adds c j s2)))
 
-  turned-back : (s : State) → Adds 1 s (fourierBack d n t s)
-  turned-back s = record { most = omega arith }
+  module _ (t : ℕ) where
+    -- once the column is straightened
+    pub first-adds : (s : State) → Adds w (total (a t) (suc t) (n - suc t) + o + total (a t) (suc t) (n - suc t)) s (each (clearV d n t) (later d n t) (scale d n t (each (gather d n t) (later d n t) s)))
+    first-adds s =
+        let s1 = each (gather d n t) (later d n t) s in
+        let a1 = each-turn-adds (gather d n t) (a t) (suc t) (n - suc t) s (λ j s′ l. a-back-adds t j (leastMultiplier d (vAt n s′ t t) (vAt n s′ t j)) s′ l) in
+        let s2 = scale d n t s1 in
+        let k = inverseOf d (vAt n s1 t t) in
+        let a2 = maybe k 1 o (M t k) d s1 (λ ne. h .of-m t (vAt n s1 t t) ne) in
+        let s3 = each (clearV d n t) (later d n t) s2 in
+        let a3 = each-turn-adds (clearV d n t) (a t) (suc t) (n - suc t) s2 (λ j s′ l. a-adds t j (minus d (vAt n s′ t j)) s′ l) in
+        then s s2 s3 (then s s1 s2 a1 a2) a3
 
-  loop : (f : ℕ → State → State) (s : State) → ((j : ℕ) (s : State) → Adds 1 s (f j s)) → Adds (n - suc t) s (each f (later d n t) s)
-  loop f s h = adds (n - suc t) s (each f (later d n t) s) (omega arith) (each-adds f 1 (suc t) (n - suc t) s h)
+  pub phases-add : (i : ℕ) (s : State) → Adds w (2 * o) s (phases d n i s)
+  phases-add i s =
+      let k = minus d (column n (s .tableau) i .phase / 2) in
+      let z = putZ d i k s in
+      let m = column n (z .tableau) (n + i) .phase / 2 % d in
+      adds (2 * o) s (phases d n i s) (omega arith) (then s z (phases d n i s) (maybe k 0 o (Z i k) d s (λ ne. h .of-z i k ne)) (maybe m 0 o (X i m) d z (λ ne. h .of-x i m ne)))
 
-  first-adds : (s : State) → Adds (4 * (n - suc t) + 4) s (firstColumn d n t s)
-  first-adds s =
-      let s1 = each (gatherInQudit d n t) (t ∷ later d n t) s in
-      let a1 = each-adds (gatherInQudit d n t) 1 t (suc (n - suc t)) s in-qudit in
-      let s2 = each (gatherQudit d n t) (later d n t) s1 in
-      let a2 = loop (gatherQudit d n t) s1 qudit in
-      let a3 = pivoted s2 in
-      let s3 = pivot d n t s2 in
-      let s4 = each (clearW d n t) (later d n t) s3 in
-      let a4 = loop (clearW d n t) s3 w-cleared in
-      let s5 = fourierOnce d n t s4 in
-      let a6 = loop (clearV d n t) s5 v-cleared in
-      let s6 = each (clearV d n t) (later d n t) s5 in
-      adds (4 * (n - suc t) + 4) s (shear d n t s6) (omega arith)
-      (then s s6 (shear d n t s6) (then s s5 s6 (then s s4 s5 (then s s3 s4 (then s s2 s3 (then s s1 s2 a1 a2) a3) a4) (turned s4)) a6) (sheared s6))
+-- weights, and what the rows of straighten weigh
+pub record Costs (d n : ℕ) (t₀ : List Pauli) (w : Row → ℕ) (a : ℕ → ℕ → ℕ) (o q : ℕ) : Type 0 where
+  pub weights : Weights d w a o
+  pub straight : (c j : ℕ) (s : State) → j < n → Reached d n t₀ s → Adds w q s (straighten d n c j s)
 
-  second-adds : (s : State) → Adds (2 * (n - suc t) + 3) s (secondColumn d n t s)
-  second-adds s =
-      let s1 = each (clearPartnerW d n t) (later d n t) s in
-      let a1 = loop (clearPartnerW d n t) s partner-w in
-      let s2 = fourierOnce d n t s1 in
-      let s3 = each (clearPartnerV d n t) (later d n t) s2 in
-      let a3 = loop (clearPartnerV d n t) s2 partner-v in
-      let s4 = partnerShear d n t s3 in
-      adds (2 * (n - suc t) + 3) s (fourierBack d n t s4) (omega arith)
-      (then s s4 (fourierBack d n t s4) (then s s3 s4 (then s s2 s3 (then s s1 s2 a1 (turned s1)) a3) (partner-sheared s3)) (turned-back s4))
+-- three rows, for any d
+pub costs : {d n : ℕ} {t₀ : List Pauli} {w : Row → ℕ} {a : ℕ → ℕ → ℕ} {o : ℕ} → Weights d w a o → Costs d n t₀ w a o (3 * o)
+costs {n = n} h = record { weights = h; straight = λ c j s l r. straighten-adds h n c j s }
 
-  stage-adds : (s : State) → Adds (6 * (n - suc t) + 7) s (stage d n t s)
-  stage-adds s = adds (6 * (n - suc t) + 7) s (stage d n t s) (omega arith) (then s (firstColumn d n t s) (stage d n t s) (first-adds s) (second-adds (firstColumn d n t s)))
-
-stages-adds : (d n k m : ℕ) (s : State) → k + m ≡ n → Adds (3 * (m * m) + 4 * m) s (each (stage d n) (upFrom k m) s)
-stages-adds d n k zero s e = record { most = omega arith }
-stages-adds d n k (suc m) s e =
-    let s1 = stage d n k s in
-    let s2 = each (stage d n) (upFrom (suc k) m) s1 in
-    adds (3 * (suc m * suc m) + 4 * suc m) s s2 (omega arith) (then s s1 s2 (stage-adds d n k s) (stages-adds d n (suc k) m s1 (omega arith)))
-
-phases-add : (d n i : ℕ) (s : State) → Adds 2 s (phases d n i s)
-phases-add d n i s =
-    let k = minus d (column n (s .tableau) i .phase / 2) in
-    let z = putZ d i k s in
-    let m = column n (z .tableau) (n + i) .phase / 2 % d in
-    adds 2 s (phases d n i s) (omega arith) (then s z (phases d n i s) (maybe k 0 (Z i k) d s) (maybe m 0 (X i m) d z))
-
-reduce-adds : (d n : ℕ) (s : State) → Adds (3 * (n * n) + 6 * n) s (reduce d n s)
-reduce-adds d n s =
-    let s1 = each (stage d n) (upFrom 0 n) s in
-    adds (3 * (n * n) + 6 * n) s (reduce d n s) (omega arith) (then s s1 (reduce d n s) (stages-adds d n 0 n s (omega arith)) (each-adds (phases d n) 2 0 n s1 (phases-add d n)))
-
-pub synthesised-length : (d n : ℕ) (t : List Pauli) → length (synthesised d n t) ≤ 3 * (n * n) + 6 * n
-unfolding synthesised
-synthesised-length d n t =
-    let s : State = record { tableau = t; rows = [] } in
-    omega (arith, length-map (reduce d n s .rows) (undo d), reduce-adds d n s .most)
+-- a loop whose turns weigh so much where P holds
+pub each-adds-at : {w : Row → ℕ} (P : ℕ → State → Type 0) (f : ℕ → State → State) (q k m : ℕ) (s : State) → P k s
+    → ((j : ℕ) (s : State) → k ≤ j → j < k + m → P j s → P (suc j) (f j s)) → ((j : ℕ) (s : State) → k ≤ j → j < k + m → P j s → Adds w q s (f j s)) → Adds w (q * m) s (each f (upFrom k m) s)
+each-adds-at P f q k zero s h step cost = record { most = omega arith }
+each-adds-at P f q k (suc m) s h step cost =
+    let r = each-adds-at P f q (suc k) m (f k s) (step k s (omega arith) (omega arith) h) (λ j s′ l u. step j s′ (omega arith) (omega arith)) (λ j s′ l u. cost j s′ (omega arith) (omega arith)) in
+    let c = cost k s (omega arith) (omega arith) h in
+    record { most = omega (arith, c .most, r .most) }

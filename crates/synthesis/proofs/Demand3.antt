@@ -18,9 +18,6 @@ use Rattle.synthesis.specs.Reduce.{synthesised}
 use Rattle.synthesis.specs.Demand3.{Realises, Realisable}
 use Rattle.synthesis.proofs.Theorem.{synthesis, Synthesis}
 
-bound : (n l : ℕ) → l ≤ 3 * (n * n) + 6 * n → l ≤ 5 * (n * n) + 6 * n
-bound n l h = omega arith
-
 module _ {d n : ℕ} {t : List Pauli} (one : 1 < d) (formed : WellFormed d n t) where
   -- a list that realises t has the tableau t, and carries every Pauli to its image under t
   pub realises-tableau : (rows : List Row) → Realises d n rows t → tableauOf d n rows ≡ t
@@ -44,7 +41,7 @@ module _ {d n : ℕ} {t : List Pauli} (one : 1 < d) (formed : WellFormed d n t) 
       → Realises d n (synthesised d n t) t
       × (length (synthesised d n t) ≤ 5 * (n * n) + 6 * n)
       × ((p : Pauli) → InRange d n p → run d (synthesised d n t) p ≡ image d n t p)
-  sound-realised sound = (realised, bound n (length (synthesised d n t)) (s .short), realises-image (synthesised d n t) realised)
+  sound-realised sound = (realised, s .short, realises-image (synthesised d n t) realised)
     where
       s : Synthesis d n t (synthesised d n t)
       s = synthesis one formed sound

@@ -1,4 +1,4 @@
--- What each row does to the entries of a Pauli; units up to phase, and when a row keeps them; commutation numbers with units.
+-- What each row does to the entries of a Pauli, and rows that change it at one qudit alone; units up to phase, and when a row keeps them; commutation numbers with units.
 use mathlib.Core.Path.{_≡_, refl, sym, _∙_, ap}
 use mathlib.Core.List.{[], _∷_}
 use mathlib.Core.Logic.{_≢_}
@@ -44,9 +44,9 @@ pub record AfterA (d i j k : ℕ) (p q : Pauli) : Type 0 where
   pub w-at : wOf q i ≡ (wOf p i + neg d (k * wOf p j)) % d
   pub w-kept : (l : ℕ) → l ≢ i → wOf q l ≡ wOf p l
 
+-- M, by what it does to v
 pub record AfterM (d i k : ℕ) (p q : Pauli) : Type 0 where
-  pub w-at : Cong d (k * wOf q i) (wOf p i)
-  pub v-zero : vOf p i ≡ 0 → vOf q i ≡ 0
+  pub v-at : vOf q i ≡ k * vOf p i % d
   pub w-zero : wOf p i ≡ 0 → wOf q i ≡ 0
   pub v-kept : (l : ℕ) → l ≢ i → vOf q l ≡ vOf p l
   pub w-kept : (l : ℕ) → l ≢ i → wOf q l ≡ wOf p l
@@ -66,9 +66,6 @@ pub record AfterF3 (d i : ℕ) (p q : Pauli) : Type 0 where
 times-zero : (d k x : ℕ) → 0 < d → x ≡ 0 → k * x % d ≡ 0
 times-zero d k x p e = mod-of (k * x) (cong-of-eq (mul-none k e)) p
 
-m-algebra : (d k x w : ℕ) → 0 < d → Cong d (k * x) 1 → Cong d (k * (x * w % d)) w
-m-algebra d k x w p h = ring₁-by d (k ∷ x ∷ w ∷ []) p (times {z = w} (search quote) (search quote) (search quote) h) (search quote depth 30) (search quote depth 30) tt
-
 module _ {d n : ℕ} {p : Pauli} (h : InRange d n p) where
   pub after-s : (i k : ℕ) → i < n → AfterS d i k p (apply d (S i k) p)
   after-s i k l = record {
@@ -76,9 +73,6 @@ module _ {d n : ℕ} {p : Pauli} (h : InRange d n p) where
     w-at = getD-set-same (p .w) i ((wOf p i + k * vOf p i) % d) 0 (in-w h l);
     w-kept = λ j ne. getD-set-other (p .w) i j ((wOf p i + k * vOf p i) % d) 0 ne;
   }
-
-  pub after-s-none : (i : ℕ) → AfterS d i 0 p p
-  after-s-none i = record { v-kept = λ j. refl; w-at = sym (idle (w-less h i) (cong-of-eq (omega arith))); w-kept = λ j ne. refl }
 
   pub after-a : (i j k : ℕ) → i < n → j < n → AfterA d i j k p (apply d (A i j k) p)
   after-a i j k l m = record {
@@ -96,17 +90,16 @@ module _ {d n : ℕ} {p : Pauli} (h : InRange d n p) where
     w-kept = λ x ne. refl;
   }
 
-  pub after-m : (i k : ℕ) → i < n → Cong d (k * inverseOf d k) 1 → AfterM d i k p (apply d (M i k) p)
-  after-m i k l e = record {
-    w-at = cong-trans (cong-of-eq (ap (λ (x : ℕ). k * x) (getD-set-same (p .w) i (inverseOf d k * wOf p i % d) 0 (in-w h l)))) (m-algebra d k (inverseOf d k) (wOf p i) (d-pos h) e);
-    v-zero = λ z. getD-set-same (p .v) i (k * vOf p i % d) 0 (in-v h l) ∙ times-zero d k (vOf p i) (d-pos h) z;
+  pub after-m : (i k : ℕ) → i < n → AfterM d i k p (apply d (M i k) p)
+  after-m i k l = record {
+    v-at = getD-set-same (p .v) i (k * vOf p i % d) 0 (in-v h l);
     w-zero = λ z. getD-set-same (p .w) i (inverseOf d k * wOf p i % d) 0 (in-w h l) ∙ times-zero d (inverseOf d k) (wOf p i) (d-pos h) z;
     v-kept = λ x ne. getD-set-other (p .v) i x (k * vOf p i % d) 0 ne;
     w-kept = λ x ne. getD-set-other (p .w) i x (inverseOf d k * wOf p i % d) 0 ne;
   }
 
   pub after-m-none : (i : ℕ) → AfterM d i 1 p p
-  after-m-none i = record { w-at = cong-of-eq (omega arith); v-zero = λ z. z; w-zero = λ z. z; v-kept = λ x ne. refl; w-kept = λ x ne. refl }
+  after-m-none i = record { v-at = sym (mod-of (1 * vOf p i) (cong-of-eq (omega arith)) (v-less h i)); w-zero = λ z. z; v-kept = λ x ne. refl; w-kept = λ x ne. refl }
 
 -- what F needs of a Pauli: the qudit is there
 fourier-after : (d i : ℕ) (p : Pauli) → i < length (p .v) → i < length (p .w) → AfterF d i p (fourier d i p)
@@ -139,6 +132,52 @@ module _ {d n : ℕ} {p : Pauli} (h : InRange d n p) where
       let rw′ : i < length (r .w) = lt-length-set (q .w) i (vOf q i) qw in
       three d i p q r (fourier d i r) (w-less h i) (fourier-after d i p (in-v h l) (in-w h l)) (fourier-after d i q qv qw) (fourier-after d i r rv rw′)
 
+-- ---- a change at one qudit
+pub record Local (i : ℕ) (p q : Pauli) : Type 0 where
+  pub v-kept : (l : ℕ) → l ≢ i → vOf q l ≡ vOf p l
+  pub w-kept : (l : ℕ) → l ≢ i → wOf q l ≡ wOf p l
+  pub v-zero : vOf p i ≡ 0 → wOf p i ≡ 0 → vOf q i ≡ 0
+  pub w-zero : vOf p i ≡ 0 → wOf p i ≡ 0 → wOf q i ≡ 0
+
+pub local-none : (i : ℕ) (p : Pauli) → Local i p p
+local-none i p = record { v-kept = λ l ne. refl; w-kept = λ l ne. refl; v-zero = λ e f. e; w-zero = λ e f. f }
+
+pub local-then : {i : ℕ} {p q r : Pauli} → Local i p q → Local i q r → Local i p r
+local-then a b = record {
+  v-kept = λ l ne. b .v-kept l ne ∙ a .v-kept l ne;
+  w-kept = λ l ne. b .w-kept l ne ∙ a .w-kept l ne;
+  v-zero = λ e f. b .v-zero (a .v-zero e f) (a .w-zero e f);
+  w-zero = λ e f. b .w-zero (a .v-zero e f) (a .w-zero e f);
+}
+
+module _ {d n i : ℕ} {p q : Pauli} (h : InRange d n p) where
+  pub local-s : {k : ℕ} → AfterS d i k p q → Local i p q
+  local-s {k} a = record {
+    v-kept = λ l ne. a .v-kept l;
+    w-kept = a .w-kept;
+    v-zero = λ e f. a .v-kept i ∙ e;
+    w-zero = λ e f. a .w-at ∙ idle (w-less h i) (cong-of-eq (mul-none k e)) ∙ f;
+  }
+
+  pub local-f : AfterF d i p q → Local i p q
+  local-f a = record {
+    v-kept = a .v-kept;
+    w-kept = a .w-kept;
+    v-zero = λ e f. a .v-at ∙ neg-zero d (wOf p i) (d-pos h) f;
+    w-zero = λ e f. a .w-at ∙ e;
+  }
+
+  pub local-f3 : AfterF3 d i p q → Local i p q
+  local-f3 a = record {
+    v-kept = a .v-kept;
+    w-kept = a .w-kept;
+    v-zero = λ e f. a .v-at ∙ f;
+    w-zero = λ e f. a .w-at ∙ neg-zero d (vOf p i) (d-pos h) e;
+  }
+
+  pub local-m : {k : ℕ} → AfterM d i k p q → Local i p q
+  local-m {k} a = record { v-kept = a .v-kept; w-kept = a .w-kept; v-zero = λ e f. a .v-at ∙ times-zero d k (vOf p i) (d-pos h) e; w-zero = λ e f. a .w-zero f }
+
 -- ---- units up to phase
 pub record IsX (k : ℕ) (p : Pauli) : Type 0 where
   pub v-one : vOf p k ≡ 1
@@ -158,17 +197,10 @@ module _ {d n : ℕ} {p q : Pauli} (h : InRange d n p) where
   v-after-a : {i j m : ℕ} → AfterA d i j m p q → vOf p i ≡ 0 → (l : ℕ) → vOf q l ≡ vOf p l
   v-after-a {i} {j} {m} a e l = by-eq l j (λ f. ap (vOf q) f ∙ a .v-at ∙ s-keep d m (vOf p j) (vOf p i) (v-less h j) e ∙ ap (vOf p) (sym f)) (λ nl. a .v-kept l nl)
 
-  w-after-a : {i j m : ℕ} → AfterA d i j m p q → wOf p j ≡ 0 → (l : ℕ) → wOf q l ≡ wOf p l
+  pub w-after-a : {i j m : ℕ} → AfterA d i j m p q → wOf p j ≡ 0 → (l : ℕ) → wOf q l ≡ wOf p l
   w-after-a {i} {j} {m} a e l = by-eq l i (λ f. ap (wOf q) f ∙ a .w-at ∙ a-keep d m (wOf p i) (wOf p j) (w-less h i) e ∙ ap (wOf p) (sym f)) (λ nl. a .w-kept l nl)
 
 module _ {d n k : ℕ} {p q : Pauli} (h : InRange d n p) where
-  pub x-after-s : {i m : ℕ} → IsX k p → AfterS d i m p q → i ≢ k → IsX k q
-  x-after-s {i} {m} x a ne = record {
-    v-one = a .v-kept k ∙ x .v-one;
-    v-rest = λ l nl. a .v-kept l ∙ x .v-rest l nl;
-    w-all = λ l. at-or-not (wOf q) i 0 l (a .w-at ∙ s-keep d m (wOf p i) (vOf p i) (w-less h i) (x .v-rest i ne) ∙ x .w-all i) (λ nl. a .w-kept l nl ∙ x .w-all l);
-  }
-
   z-w-after-s : {i m : ℕ} → IsZ k p → AfterS d i m p q → (l : ℕ) → wOf q l ≡ wOf p l
   z-w-after-s {i} {m} z a l = by-eq l i (λ e. ap (wOf q) e ∙ a .w-at ∙ s-keep d m (wOf p i) (vOf p i) (w-less h i) (z .v-all i) ∙ ap (wOf p) (sym e)) (λ nl. a .w-kept l nl)
 
@@ -193,47 +225,20 @@ module _ {d n k : ℕ} {p q : Pauli} (h : InRange d n p) where
     v-all = λ l. v-after-a h a (z .v-all i) l ∙ z .v-all l;
   }
 
-  -- F and F three times, elsewhere
-  pub x-after-f : {i : ℕ} → IsX k p → AfterF d i p q → i ≢ k → IsX k q
-  x-after-f {i} x a ne = record {
+-- a change at one qudit keeps the units of the others
+module _ {i k : ℕ} {p q : Pauli} (a : Local i p q) (ne : i ≢ k) where
+  pub x-after-local : IsX k p → IsX k q
+  x-after-local x = record {
     v-one = a .v-kept k (λ e. ne (sym e)) ∙ x .v-one;
-    v-rest = λ l nl. at-or-not (vOf q) i 0 l (a .v-at ∙ neg-zero d (wOf p i) (d-pos h) (x .w-all i)) (λ ni. a .v-kept l ni ∙ x .v-rest l nl);
-    w-all = λ l. at-or-not (wOf q) i 0 l (a .w-at ∙ x .v-rest i ne) (λ ni. a .w-kept l ni ∙ x .w-all l);
+    v-rest = λ l nl. at-or-not (vOf q) i 0 l (a .v-zero (x .v-rest i ne) (x .w-all i)) (λ ni. a .v-kept l ni ∙ x .v-rest l nl);
+    w-all = λ l. at-or-not (wOf q) i 0 l (a .w-zero (x .v-rest i ne) (x .w-all i)) (λ ni. a .w-kept l ni ∙ x .w-all l);
   }
 
-  pub z-after-f : {i : ℕ} → IsZ k p → AfterF d i p q → i ≢ k → IsZ k q
-  z-after-f {i} z a ne = record {
+  pub z-after-local : IsZ k p → IsZ k q
+  z-after-local z = record {
     w-one = a .w-kept k (λ e. ne (sym e)) ∙ z .w-one;
-    w-rest = λ l nl. at-or-not (wOf q) i 0 l (a .w-at ∙ z .v-all i) (λ ni. a .w-kept l ni ∙ z .w-rest l nl);
-    v-all = λ l. at-or-not (vOf q) i 0 l (a .v-at ∙ neg-zero d (wOf p i) (d-pos h) (z .w-rest i ne)) (λ ni. a .v-kept l ni ∙ z .v-all l);
-  }
-
-  pub x-after-f3 : {i : ℕ} → IsX k p → AfterF3 d i p q → i ≢ k → IsX k q
-  x-after-f3 {i} x a ne = record {
-    v-one = a .v-kept k (λ e. ne (sym e)) ∙ x .v-one;
-    v-rest = λ l nl. at-or-not (vOf q) i 0 l (a .v-at ∙ x .w-all i) (λ ni. a .v-kept l ni ∙ x .v-rest l nl);
-    w-all = λ l. at-or-not (wOf q) i 0 l (a .w-at ∙ neg-zero d (vOf p i) (d-pos h) (x .v-rest i ne)) (λ ni. a .w-kept l ni ∙ x .w-all l);
-  }
-
-  pub z-after-f3 : {i : ℕ} → IsZ k p → AfterF3 d i p q → i ≢ k → IsZ k q
-  z-after-f3 {i} z a ne = record {
-    w-one = a .w-kept k (λ e. ne (sym e)) ∙ z .w-one;
-    w-rest = λ l nl. at-or-not (wOf q) i 0 l (a .w-at ∙ neg-zero d (vOf p i) (d-pos h) (z .v-all i)) (λ ni. a .w-kept l ni ∙ z .w-rest l nl);
-    v-all = λ l. at-or-not (vOf q) i 0 l (a .v-at ∙ z .w-rest i ne) (λ ni. a .v-kept l ni ∙ z .v-all l);
-  }
-
-  pub x-after-m : {i m : ℕ} → IsX k p → AfterM d i m p q → i ≢ k → IsX k q
-  x-after-m {i} x a ne = record {
-    v-one = a .v-kept k (λ e. ne (sym e)) ∙ x .v-one;
-    v-rest = λ l nl. at-or-not (vOf q) i 0 l (a .v-zero (x .v-rest i ne)) (λ ni. a .v-kept l ni ∙ x .v-rest l nl);
-    w-all = λ l. at-or-not (wOf q) i 0 l (a .w-zero (x .w-all i)) (λ ni. a .w-kept l ni ∙ x .w-all l);
-  }
-
-  pub z-after-m : {i m : ℕ} → IsZ k p → AfterM d i m p q → i ≢ k → IsZ k q
-  z-after-m {i} z a ne = record {
-    w-one = a .w-kept k (λ e. ne (sym e)) ∙ z .w-one;
-    w-rest = λ l nl. at-or-not (wOf q) i 0 l (a .w-zero (z .w-rest i ne)) (λ ni. a .w-kept l ni ∙ z .w-rest l nl);
-    v-all = λ l. at-or-not (vOf q) i 0 l (a .v-zero (z .v-all i)) (λ ni. a .v-kept l ni ∙ z .v-all l);
+    w-rest = λ l nl. at-or-not (wOf q) i 0 l (a .w-zero (z .v-all i) (z .w-rest i ne)) (λ ni. a .w-kept l ni ∙ z .w-rest l nl);
+    v-all = λ l. at-or-not (vOf q) i 0 l (a .v-zero (z .v-all i) (z .w-rest i ne)) (λ ni. a .v-kept l ni ∙ z .v-all l);
   }
 
 -- F on the unit's own qudit

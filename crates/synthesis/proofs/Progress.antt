@@ -1,9 +1,9 @@
 -- Laws of steps that code does: one step after another, a step that is skipped, a row put behind, a loop of steps. Assumes nothing.
 use mathlib.Core.Path.{_≡_, refl, sym, _∙_, ap, subst}
-use mathlib.Core.Bool.{cond}
+use mathlib.Core.Bool.{Bool, cond}
 use mathlib.Core.List.{List, [], _∷_, _++_, map, append-assoc, reverse-cons}
 use mathlib.Core.Logic.{_≢_}
-use Prim.Native.Nat.{ℕ, suc, _+_, _*_, _-_, _≤_}
+use Prim.Native.Nat.{ℕ, suc, _+_, _*_, _-_, _≤_, _<_}
 use native.Mathlib.Nat.{add-zero}
 use native.Mathlib.Omega.{arith}
 use lib.ListN.{length, length-map, length-reverse}
@@ -13,12 +13,12 @@ use Rattle.arith.specs.Bytes.{bytesOf}
 use Rattle.arith.proofs.Bytes.{write-more}
 use Rattle.arith.proofs.Cases.{eqb-case, by-eq}
 use Rattle.pauli.specs.Pauli.{Pauli}
-use Rattle.gates.specs.Row.{Row, Legal, apply, undo}
-use Rattle.gates.specs.Written.{WrittenRow, written, meant, rowNumbers, listNumbers, encodeRows}
+use Rattle.gates.specs.Row.{Row, F, A, X, Z, Legal, apply, undo}
+use Rattle.gates.specs.Written.{WrittenRow, onOne, onTwo, written, meant, rowNumbers, listNumbers, encodeRows}
 use Rattle.gates.proofs.Written.{legal-written, meant-of-written, listNumbers-length}
 use Rattle.tableau.specs.Tableau.{upFrom}
-use Rattle.synthesis.specs.Reduce.{State, put, each, start}
-use Rattle.synthesis.specs.Progress.{undoRows, withPower, Holds, Does, Says}
+use Rattle.synthesis.specs.Reduce.{State, put, putA, putX, putZ, each, start}
+use Rattle.synthesis.specs.Progress.{undoRows, Holds, Does, Says}
 use Rattle.synthesis.proofs.Steps.{each-more}
 
 -- ---- rows in bytes
@@ -71,6 +71,9 @@ module _ {d : ℕ} {t : List Pauli} {out : List ℕ} {count : ℕ} where
   unfolding undoRows listNumbers bytesOf
   holds-start = record { tableau = refl; counted = sym (add-zero count); listed = refl }
 
+  pub does-nothing : (k : ℕ) → Does d k (λ s. s) t out count t out count
+  does-nothing k = record { does = λ first old s h. h; within = omega arith }
+
   -- a row x put behind every column, and its undo row, written as w, behind the others
   pub does-put : {t′ : List Pauli} {out′ : List ℕ} {count′ : ℕ} {w : WrittenRow} (x : Row) → t′ ≡ map (apply d x) t
       → written (undo d x) ≡ w → out′ ≡ sets out (8 * count) (encodeRows (w ∷ [])) → count′ ≡ count + 1 → Does d 1 (put d x) t out count t′ out′ count′
@@ -96,6 +99,10 @@ module _ {d : ℕ} {t t′ : List Pauli} {out out′ : List ℕ} {count count′
     within = a .within;
   }
 
+  -- a step that a test of the tableau decides
+  pub does-test : {k : ℕ} (f : Bool → State → State) (test : List Pauli → Bool) {b : Bool} → test t ≡ b → Does d k (f b) t out count t′ out′ count′ → Does d k (λ s. f (test (s .tableau)) s) t out count t′ out′ count′
+  does-test f test e a = does-as (λ s. f (test (s .tableau)) s) (λ s h. ap (λ (x : Bool). f x s) (sym e ∙ ap test h)) a
+
   -- the state at the end, from the start
   pub does-from : {k : ℕ} {f : State → State} → Does d k f t out count t′ out′ count′ → Holds d count out t′ out′ count′ (f (start t))
   does-from a = a .does count out (start t) holds-start
@@ -106,55 +113,58 @@ module _ {d : ℕ} {t t′ : List Pauli} {out out′ : List ℕ} {count count′
 
 -- ---- the row that a step puts behind
 -- none: at a power of 0 nothing is done
-pub says-does-none : {d n : ℕ} {f : State → State} {t : List Pauli} {out : List ℕ} {count back : ℕ} {w : WrittenRow} → Says d n f t w back → w .power ≡ 0 → Does d 1 f t out count t out count
+pub says-does-none : {d n : ℕ} {f : State → State} {t : List Pauli} {out : List ℕ} {count : ℕ} {w : WrittenRow} → Says d n f t w → w .power ≡ 0 → Does d 1 f t out count t out count
 says-does-none {d} {t = t} {out = out} {count = count} a e = record { does = λ first old s h. subst (λ (z : State). Holds d first old t out count z) (a .idle e s (h .tableau)) h; within = omega arith }
 
-pub says-does : {d n : ℕ} {f : State → State} {t t′ : List Pauli} {out out′ : List ℕ} {count count′ back : ℕ} {w : WrittenRow} → Says d n f t w back → w .power ≢ 0
+pub says-does : {d n : ℕ} {f : State → State} {t t′ : List Pauli} {out out′ : List ℕ} {count count′ : ℕ} {w : WrittenRow} → Says d n f t w → w .power ≢ 0
     → Does d 1 (put d (meant w)) t out count t′ out′ count′ → Does d 1 f t out count t′ out′ count′
 says-does {f = f} a ne b = does-as f (λ s h. a .puts ne s h) b
 
 -- a step whose power is read off the tableau
-pub says-power : {d n back k : ℕ} {t : List Pauli} {w : WrittenRow} (f : ℕ → State → State) (power : List Pauli → ℕ) → k ≡ power t → Says d n (f k) t w back → Says d n (λ s. f (power (s .tableau)) s) t w back
+pub says-power : {d n k : ℕ} {t : List Pauli} {w : WrittenRow} (f : ℕ → State → State) (power : List Pauli → ℕ) → k ≡ power t → Says d n (f k) t w → Says d n (λ s. f (power (s .tableau)) s) t w
 says-power f power e a = record {
   idle = λ z s h. a .idle z s h ∙ ap (λ (x : ℕ). f x s) (e ∙ ap power h);
   legal = a .legal;
-  undone = a .undone;
   puts = λ ne s h. a .puts ne s h ∙ ap (λ (x : ℕ). f x s) (e ∙ ap power h);
 }
 
--- the row x with power k, where k does something unless it is `none`
-pub says-row : (d n : ℕ) {back none k : ℕ} {t : List Pauli} {w : WrittenRow} (x : Row) → w ≡ written x → k ≢ none → w .power ≢ 0 → Legal d n x → written (undo d x) ≡ withPower (written x) back
-    → Says d n (λ s. cond (eqb k none) s (put d x s)) t w back
-says-row d n {none = none} {k = k} {w = w} x e ne some l u = record {
-  idle = λ z. absurd (some z);
-  legal = λ o. rw e (legal-written d n x l);
-  undone = λ o. rw e (ap (λ (y : Row). written (undo d y)) (meant-of-written x) ∙ u);
-  puts = λ o s h. eqb-case (λ b. put d (meant w) s ≡ cond b s (put d x s)) k none (λ q. absurd (ne q)) (λ q. ap (λ (y : Row). put d y s) (ap meant e ∙ meant-of-written x));
-}
+module _ (d n : ℕ) {t : List Pauli} {w : WrittenRow} where
+  -- the row x with power k, where k does something unless it is `none`
+  pub says-row : {none k : ℕ} (x : Row) → w ≡ written x → k ≢ none → w .power ≢ 0 → Legal d n x → Says d n (λ s. cond (eqb k none) s (put d x s)) t w
+  says-row {none} {k} x e ne some l = record {
+    idle = λ z. absurd (some z);
+    legal = λ o. rw e (legal-written d n x l);
+    puts = λ o s h. eqb-case (λ b. put d (meant w) s ≡ cond b s (put d x s)) k none (λ q. absurd (ne q)) (λ q. ap (λ (y : Row). put d y s) (ap meant e ∙ meant-of-written x));
+  }
 
-pub says-none : {d n back none k : ℕ} {t : List Pauli} {w : WrittenRow} (g : State → State) → k ≡ none → w .power ≡ 0 → Says d n (λ s. cond (eqb k none) s (g s)) t w back
-says-none {none = none} {k = k} g e z = record {
-  idle = λ o s h. eqb-case (λ b. s ≡ cond b s (g s)) k none (λ q. refl) (λ ne. absurd (ne e));
-  legal = λ ne. absurd (ne z);
-  undone = λ ne. absurd (ne z);
-  puts = λ ne. absurd (ne z);
-}
+  pub says-none : {none k : ℕ} (g : State → State) → k ≡ none → w .power ≡ 0 → Says d n (λ s. cond (eqb k none) s (g s)) t w
+  says-none {none} {k} g e z = record {
+    idle = λ o s h. eqb-case (λ b. s ≡ cond b s (g s)) k none (λ q. refl) (λ ne. absurd (ne e));
+    legal = λ ne. absurd (ne z);
+    puts = λ ne. absurd (ne z);
+  }
 
--- a kind whose power 0 does nothing
-pub says-unless : (d n : ℕ) {back k : ℕ} {t : List Pauli} {w : WrittenRow} (x : Row) → w ≡ written x → written x .power ≡ k → (k ≢ 0 → Legal d n x) → (k ≢ 0 → written (undo d x) ≡ withPower (written x) back)
-    → Says d n (λ s. cond (eqb k 0) s (put d x s)) t w back
-says-unless d n {k = k} x e p l u = by-eq k 0
-    (λ z. says-none (put d x) z (ap (λ (v : WrittenRow). v .power) e ∙ p ∙ z))
-    (λ ne. says-row d n x e ne (λ z. ne (sym (ap (λ (v : WrittenRow). v .power) e ∙ p) ∙ z)) (l ne) (u ne))
+  -- a kind whose power 0 does nothing
+  says-unless : {k : ℕ} (x : Row) → w ≡ written x → w .power ≡ k → (k ≢ 0 → Legal d n x) → Says d n (λ s. cond (eqb k 0) s (put d x s)) t w
+  says-unless {k} x e p l = by-eq k 0 (λ z. says-none (put d x) z (p ∙ z)) (λ ne. says-row x e ne (λ z. ne (sym p ∙ z)) (l ne))
 
--- a row that is put behind whatever the tableau is
-pub says-always : (d n : ℕ) {back : ℕ} {t : List Pauli} {w : WrittenRow} (x : Row) → w ≡ written x → w .power ≢ 0 → Legal d n x → written (undo d x) ≡ withPower (written x) back → Says d n (put d x) t w back
-says-always d n x e some l u = record {
-  idle = λ z. absurd (some z);
-  legal = λ o. rw e (legal-written d n x l);
-  undone = λ o. rw e (ap (λ (y : Row). written (undo d y)) (meant-of-written x) ∙ u);
-  puts = λ o s h. ap (λ (y : Row). put d y s) (ap meant e ∙ meant-of-written x);
-}
+  pub says-a : (i j k : ℕ) → w ≡ onTwo 3 i j k → i < n → j < n → i ≢ j → k < d → Says d n (putA d i j k) t w
+  says-a i j k e l l′ ij m = says-unless (A i j k) e (ap (λ (v : WrittenRow). v .power) e)
+      (λ ne. (record { from-qudit = l; to-qudit = l′; apart = ij }, record { qudit = l; power-low = omega arith; power-high = omega arith }))
+
+  pub says-x : (i k : ℕ) → w ≡ onOne 5 i k → i < n → k < d → Says d n (putX d i k) t w
+  says-x i k e l m = says-unless (X i k) e (ap (λ (v : WrittenRow). v .power) e) (λ ne. record { qudit = l; power-low = omega arith; power-high = omega arith })
+
+  pub says-z : (i k : ℕ) → w ≡ onOne 6 i k → i < n → k < d → Says d n (putZ d i k) t w
+  says-z i k e l m = says-unless (Z i k) e (ap (λ (v : WrittenRow). v .power) e) (λ ne. record { qudit = l; power-low = omega arith; power-high = omega arith })
+
+  -- F is put behind whatever the tableau is
+  pub says-f : (i k : ℕ) → w ≡ onOne 1 i k → i < n → (1 ≤ k) × (k ≤ 3) → Says d n (put d (F i k)) t w
+  says-f i k e l m = record {
+    idle = λ z. absurd (omega (arith, z, ap (λ (v : WrittenRow). v .power) e, m));
+    legal = λ o. rw e (legal-written d n (F i k) (record { qudit = l; power-low = m .0; power-high = m .1 }));
+    puts = λ o s h. ap (λ (y : Row). put d y s) (ap meant e ∙ meant-of-written (F i k));
+  }
 
 -- ---- loops: the steps for the numbers from k on, before the turn of j
 abbrev pub upTo : (ℕ → State → State) → ℕ → ℕ → State → State

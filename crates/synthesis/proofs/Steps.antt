@@ -3,24 +3,50 @@ use mathlib.Core.Bool.{cond}
 use mathlib.Core.Path.{_≡_, refl, sym, _∙_, ap, subst}
 use mathlib.Core.List.{List, []}
 use mathlib.Core.Logic.{_≢_}
-use Prim.Native.Nat.{ℕ, zero, suc, _+_, _-_, _≤_, _<_}
+use Prim.Native.Nat.{ℕ, zero, suc, _+_, _*_, _-_, _%_, _≤_, _<_}
+use native.Mathlib.Nat.{mod-lt}
 use native.Mathlib.Omega.{arith}
-use Rattle.arith.proofs.Cases.{eqb-case}
-use Rattle.arith.proofs.Cong.{Cong, cong-eq, cong-trans}
+use Rattle.arith.proofs.Cases.{eqb-case, ltb-case}
+use Rattle.arith.proofs.Cong.{Cong, cong-intro, cong-of-eq, cong-eq, cong-trans, cong-sym, cong-refl, cong-add, cong-mul, cong-mod}
 use Rattle.arith.specs.Residues.{neg}
 use Rattle.arith.proofs.Ring.{ring₁, quote}
 use Rattle.arith.specs.Gcd.{gcd}
-use Rattle.arith.proofs.Units.{inverse-times}
+use Rattle.arith.proofs.Remainders.{idle}
 use Rattle.pauli.specs.Pauli.{Pauli, InRange, comm}
 use Rattle.pauli.proofs.Ranges.{v-less, d-pos, w-less}
 use Rattle.gates.specs.Row.{Row, F, S, A, M, Legal, apply}
 use Rattle.gates.proofs.Rows.{row-hom}
 use Rattle.tableau.specs.Tableau.{column, upFrom, paired}
 use Rattle.tableau.proofs.Columns.{column-range, column-map}
-use Rattle.synthesis.specs.Reduce.{State, put, putS, putA, putM, each}
+use Rattle.synthesis.specs.Reduce.{State, put, nearPower, putS, putA, putM, each}
 use Rattle.synthesis.proofs.Reached.{Reached, put-reached, choose-case}
-use Rattle.synthesis.proofs.Entries.{AfterS, AfterA, AfterM, AfterF, AfterF3, IsX, IsZ, vOf, wOf, after-s, after-s-none, after-a, after-a-none, after-m, after-m-none, after-f, after-f3, x-after-s, z-after-s, x-after-a, z-after-a, x-after-m, z-after-m, x-after-f, z-after-f, x-after-f3, z-after-f3, comm-x-l, comm-z-l, comm-z-r}
+use Rattle.synthesis.proofs.Entries.{AfterS, AfterA, AfterM, AfterF, AfterF3, Local, IsX, IsZ, vOf, wOf, after-s, after-a, after-a-none, after-m, after-m-none, after-f, after-f3, local-then, x-after-local, z-after-local, x-after-a, z-after-a, comm-x-l, comm-z-l, comm-z-r}
 
+-- ---- the power of S that is nearer to 0
+near-case : (P : ℕ → Type 0) (d k : ℕ) → (d ≤ 2 * k → P (k + d)) → (2 * k < d → P k) → P (nearPower d k)
+unfolding nearPower
+near-case P d k f g = ltb-case (λ b. P (cond b k (k + d))) (2 * k) d g f
+
+module _ (d k : ℕ) where
+  near-cong : Cong d (nearPower d k) k
+  near-cong = near-case (λ x. Cong d x k) d k (λ l. cong-intro 0 1 (omega arith)) (λ l. cong-refl k)
+
+  pub near-low : 1 ≤ k → 1 ≤ nearPower d k
+  near-low h = near-case (λ x. 1 ≤ x) d k (λ l. omega arith) (λ l. h)
+
+  pub near-high : k < d → nearPower d k ≤ 2 * d - 1
+  near-high h = near-case (λ x. x ≤ 2 * d - 1) d k (λ l. omega arith) (λ l. omega arith)
+
+  pub near-not : k < d → 1 ≤ k → nearPower d k ≢ d
+  near-not h l = near-case (λ x. x ≢ d) d k (λ m e. omega arith) (λ m e. omega arith)
+
+  pub near-below : 2 * k < d → nearPower d k ≡ k
+  near-below h = near-case (λ x. x ≡ k) d k (λ l. absurd (omega arith)) (λ l. refl)
+
+  pub near-above : d ≤ 2 * k → nearPower d k ≡ k + d
+  near-above h = near-case (λ x. x ≡ k + d) d k (λ l. refl) (λ l. absurd (omega arith))
+
+-- ---- steps
 abbrev pub col : ℕ → State → ℕ → Pauli
 col n s c = column n (s .tableau) c
 
@@ -42,13 +68,21 @@ module _ {d n : ℕ} {t₀ : List Pauli} {s : State} (h : Reached d n t₀ s) wh
   pub none-step : (After : Pauli → Pauli → Type 0) → ((p : Pauli) → InRange d n p → After p p) → Effect d n t₀ After s s
   none-step After f = record { reached = h; after = λ c. f (col n s c) (col-range c) }
 
-  pub put-s : (i k : ℕ) → i < n → k < d → Effect d n t₀ (AfterS d i k) s (putS d i k s)
-  put-s i k l m = choose-case (λ (x : State). Effect d n t₀ (AfterS d i k) s x) k 0 s (put d (S i k) s)
-      (λ e. none-step (AfterS d i k) (λ p r. subst (λ (x : ℕ). AfterS d i x p p) (sym e) (after-s-none r i)))
-      (λ ne. put-step (AfterS d i k) (S i k) (record { qudit = l; power-low = pos ne; power-high = omega arith }) (λ p r. after-s r i k l))
+  pub put-s : (i k : ℕ) → i < n → Effect d n t₀ (AfterS d i k) s (putS d i k s)
+  put-s i k l = choose-case (λ (x : State). Effect d n t₀ (AfterS d i k) s x) (k % d) 0 s (put d (S i (nearPower d (k % d))) s)
+      (λ e. none-step (AfterS d i k) (λ p r. record { v-kept = λ j. refl; w-at = sym (idle (w-less r i) (none e (vOf p i))); w-kept = λ j ne. refl }))
+      (λ ne. put-step (AfterS d i k) (S i (nearPower d (k % d)))
+      (record { qudit = l; power-low = near-low d (k % d) (pos ne); power-high = near-high d (k % d) (mod-lt k (omega (arith, h .large))) })
+      (λ p r. let a = after-s r i (nearPower d (k % d)) l in record { v-kept = a .v-kept; w-at = a .w-at ∙ same (wOf p i) (vOf p i) .same; w-kept = a .w-kept }))
     where
-      pos : k ≢ 0 → 1 ≤ k
+      pos : k % d ≢ 0 → 1 ≤ k % d
       pos ne = omega arith
+
+      none : k % d ≡ 0 → (v : ℕ) → Cong d (k * v) 0
+      none e v = cong-trans (cong-mul (cong-trans (cong-sym (cong-mod k)) (cong-of-eq e)) (cong-refl v)) (cong-of-eq (omega arith))
+
+      same : (w v : ℕ) → Cong d (w + nearPower d (k % d) * v) (w + k * v)
+      same w v = cong-add (cong-refl w) (cong-mul (cong-trans (near-cong d (k % d)) (cong-mod k)) (cong-refl v))
 
   pub put-a : (i j k : ℕ) → i < n → j < n → i ≢ j → k < d → Effect d n t₀ (AfterA d i j k) s (putA d i j k s)
   put-a i j k l l′ ij m = choose-case (λ (x : State). Effect d n t₀ (AfterA d i j k) s x) k 0 s (put d (A i j k) s)
@@ -61,13 +95,21 @@ module _ {d n : ℕ} {t₀ : List Pauli} {s : State} (h : Reached d n t₀ s) wh
   pub put-m : (i k : ℕ) → i < n → 0 < k → k < d → gcd k d ≡ 1 → Effect d n t₀ (AfterM d i k) s (putM d i k s)
   put-m i k l low m g = choose-case (λ (x : State). Effect d n t₀ (AfterM d i k) s x) k 1 s (put d (M i k) s)
       (λ e. none-step (AfterM d i k) (λ p r. subst (λ (x : ℕ). AfterM d i x p p) (sym e) (after-m-none r i)))
-      (λ ne. put-step (AfterM d i k) (M i k) (g, record { qudit = l; power-low = low; power-high = omega arith }) (λ p r. after-m r i k l (inverse-times d k (h .large) g)))
+      (λ ne. put-step (AfterM d i k) (M i k) (g, record { qudit = l; power-low = low; power-high = omega arith }) (λ p r. after-m r i k l))
 
   pub put-f : (i : ℕ) → i < n → Effect d n t₀ (AfterF d i) s (put d (F i 1) s)
   put-f i l = put-step (AfterF d i) (F i 1) (record { qudit = l; power-low = omega arith; power-high = omega arith }) (λ p r. after-f r i l)
 
   pub put-f3 : (i : ℕ) → i < n → Effect d n t₀ (AfterF3 d i) s (put d (F i 3) s)
   put-f3 i l = put-step (AfterF3 d i) (F i 3) (record { qudit = l; power-low = omega arith; power-high = omega arith }) (λ p r. after-f3 r i l)
+
+-- a step whose columns change at one qudit
+module _ {d n i : ℕ} {t₀ : List Pauli} {s s′ : State} where
+  pub locally : {After : Pauli → Pauli → Type 0} → Reached d n t₀ s → Effect d n t₀ After s s′ → ((p q : Pauli) → InRange d n p → After p q → Local i p q) → Effect d n t₀ (Local i) s s′
+  locally h st f = record { reached = st .reached; after = λ c. f (col n s c) (col n s′ c) (col-range h c) (st .after c) }
+
+  pub local-effects : {s″ : State} → Effect d n t₀ (Local i) s s′ → Effect d n t₀ (Local i) s′ s″ → Effect d n t₀ (Local i) s s″
+  local-effects a b = record { reached = b .reached; after = λ c. local-then (a .after c) (b .after c) }
 
 -- ---- columns 0 .. t − 1 and n .. n + t − 1 are units up to phase
 pub record Base (d n : ℕ) (t₀ : List Pauli) (t : ℕ) (s : State) : Type 0 where
@@ -88,20 +130,12 @@ module _ {d n : ℕ} {t₀ : List Pauli} {t : ℕ} {s s′ : State} (b : Base d 
     done-z = λ k l. fz k (col n s (n + k)) (col n s′ (n + k)) l (col-range (b .reached) (n + k)) (b .done-z k l) (st .after (n + k));
   }
 
-  pub base-s : {i k : ℕ} → t ≤ i → Effect d n t₀ (AfterS d i k) s s′ → Base d n t₀ t s′
-  base-s {i} ti st = base-step st (λ k p q l r x a. x-after-s r x a (λ (e : i ≡ k). omega arith)) (λ k p q l r x a. z-after-s r x a)
-
   pub base-a : {i j k : ℕ} → t ≤ i → t ≤ j → Effect d n t₀ (AfterA d i j k) s s′ → Base d n t₀ t s′
   base-a {i} {j} ti tj st = base-step st (λ k p q l r x a. x-after-a r x a (λ (e : i ≡ k). omega arith)) (λ k p q l r x a. z-after-a r x a (λ (e : j ≡ k). omega arith))
 
-  pub base-m : {i k : ℕ} → t ≤ i → Effect d n t₀ (AfterM d i k) s s′ → Base d n t₀ t s′
-  base-m {i} ti st = base-step st (λ k p q l r x a. x-after-m r x a (λ (e : i ≡ k). omega arith)) (λ k p q l r x a. z-after-m r x a (λ (e : i ≡ k). omega arith))
-
-  pub base-f : {i : ℕ} → t ≤ i → Effect d n t₀ (AfterF d i) s s′ → Base d n t₀ t s′
-  base-f {i} ti st = base-step st (λ k p q l r x a. x-after-f r x a (λ (e : i ≡ k). omega arith)) (λ k p q l r x a. z-after-f r x a (λ (e : i ≡ k). omega arith))
-
-  pub base-f3 : {i : ℕ} → t ≤ i → Effect d n t₀ (AfterF3 d i) s s′ → Base d n t₀ t s′
-  base-f3 {i} ti st = base-step st (λ k p q l r x a. x-after-f3 r x a (λ (e : i ≡ k). omega arith)) (λ k p q l r x a. z-after-f3 r x a (λ (e : i ≡ k). omega arith))
+  -- rows at one qudit that isn't before t
+  pub base-local : {i : ℕ} → t ≤ i → Effect d n t₀ (Local i) s s′ → Base d n t₀ t s′
+  base-local {i} ti st = base-step st (λ k p q l r x a. x-after-local a (λ (e : i ≡ k). omega arith) x) (λ k p q l r z a. z-after-local a (λ (e : i ≡ k). omega arith) z)
 
 -- ---- pairing
 paired-no : (d n j k : ℕ) → k ≢ j + n → paired d n j k ≡ 0

@@ -26,13 +26,8 @@ pub record Does (d most : ℕ) (step : State → State) (t : List Pauli) (out : 
   pub does : (first : ℕ) (old : List ℕ) (s : State) → Holds d first old t out count s → Holds d first old t′ out′ count′ (step s)
   pub within : count′ ≤ count + most
 
--- a row with another power
-abbrev pub withPower : WrittenRow → ℕ → WrittenRow
-withPower w k = record { kind = w .kind; first = w .first; second = w .second; power = k }
-
--- the row w, whose undo row has the power `back`, is what the step puts behind at the tableau t; a power of 0 says that it puts none
-pub record Says (d n : ℕ) (step : State → State) (t : List Pauli) (w : WrittenRow) (back : ℕ) : Type 0 where
+-- the row w is what the step puts behind at the tableau t; a power of 0 says that it puts none
+pub record Says (d n : ℕ) (step : State → State) (t : List Pauli) (w : WrittenRow) : Type 0 where
   pub idle : w .power ≡ 0 → (s : State) → t ≡ s .tableau → s ≡ step s
   pub legal : w .power ≢ 0 → legalRow d n w ≡ true
-  pub undone : w .power ≢ 0 → written (undo d (meant w)) ≡ withPower w back
   pub puts : w .power ≢ 0 → (s : State) → t ≡ s .tableau → put d (meant w) s ≡ step s

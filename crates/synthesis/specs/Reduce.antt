@@ -1,11 +1,11 @@
 -- The reduction of a tableau to the unit tableau by rows, each put behind all columns. A state is the tableau so far and the rows so far, the last one first.
 use mathlib.Core.List.{List, [], _∷_, map}
-use mathlib.Core.Bool.{cond}
-use Prim.Native.Nat.{ℕ, suc, _+_, _-_, _/_, _%_}
+use mathlib.Core.Bool.{Bool, true, cond, _&&_}
+use Prim.Native.Nat.{ℕ, suc, _+_, _*_, _-_, _/_, _%_}
 use lib.ListN.{getD}
-use lib.Dec.{eqb}
+use lib.Dec.{eqb, ltb}
 use Rattle.arith.specs.Residues.{neg}
-use Rattle.arith.specs.Units.{leastMultiplier}
+use Rattle.arith.specs.Units.{leastMultiplier, inverseOf, divides, quotient}
 use Rattle.pauli.specs.Pauli.{Pauli}
 use Rattle.gates.specs.Row.{Row, F, S, A, M, X, Z, apply, undo}
 use Rattle.tableau.specs.Tableau.{column, upFrom}
@@ -22,8 +22,11 @@ start t = record { tableau = t; rows = [] }
 abbrev pub put : ℕ → Row → State → State
 put d r s = record { tableau = map (apply d r) (s .tableau); rows = r ∷ s .rows }
 
-abbrev pub putS : ℕ → ℕ → ℕ → State → State
-putS d i k s = cond (eqb k 0) s (put d (S i k) s)
+abbrev pub putA : ℕ → ℕ → ℕ → ℕ → State → State
+putA d i j k s = cond (eqb k 0) s (put d (A i j k) s)
+
+abbrev pub putM : ℕ → ℕ → ℕ → State → State
+putM d i k s = cond (eqb k 1) s (put d (M i k) s)
 
 abbrev pub putX : ℕ → ℕ → ℕ → State → State
 putX d i k s = cond (eqb k 0) s (put d (X i k) s)
@@ -31,11 +34,13 @@ putX d i k s = cond (eqb k 0) s (put d (X i k) s)
 abbrev pub putZ : ℕ → ℕ → ℕ → State → State
 putZ d i k s = cond (eqb k 0) s (put d (Z i k) s)
 
-abbrev pub putA : ℕ → ℕ → ℕ → ℕ → State → State
-putA d i j k s = cond (eqb k 0) s (put d (A i j k) s)
+-- the power of S that does to the entries what power k < d does, and is nearer to 0 modulo 2·d; where k and k + d are as near, k + d, whose undo row has the lower power
+unfoldable pub nearPower : ℕ → ℕ → ℕ
+nearPower d k = cond (ltb (2 * k) d) k (k + d)
 
-abbrev pub putM : ℕ → ℕ → ℕ → State → State
-putM d i k s = cond (eqb k 1) s (put d (M i k) s)
+-- S on i: w at i grows by k·v
+abbrev pub putS : ℕ → ℕ → ℕ → State → State
+putS d i k s = cond (eqb (k % d) 0) s (put d (S i (nearPower d (k % d))) s)
 
 -- the entries of a column
 abbrev pub vAt : ℕ → State → ℕ → ℕ → ℕ
@@ -53,19 +58,45 @@ abbrev pub each : (ℕ → State → State) → List ℕ → State → State
 each f [] s = s
 each f (j ∷ js) s = each f js (f j s)
 
--- one stage: column t becomes unit t and column n + t unit n + t, up to phases
+-- ---- column c is straightened at qudit j: w is made 0 there
+module _ (d n c j : ℕ) where
+  -- S, after which gcd(w, d) divides v
+  abbrev pub gatherW : State → State
+  gatherW s = putS d j (leastMultiplier d (wAt n s c j) (vAt n s c j)) s
+
+  -- F, by which v and w change places and one is negated: with power 1 or 3, whichever makes the new v, −w or w, the lower
+  abbrev pub exchange : State → State
+  exchange s = put d (F j (cond (ltb d (2 * wAt n s c j)) 1 3)) s
+
+  -- S, which makes w 0 where gcd(v, d) divides it
+  abbrev pub clearW : State → State
+  clearW s = putS d j (quotient d (vAt n s c j) (minus d (wAt n s c j))) s
+
+  -- where gcd(v, d) doesn't divide w, it does so once they are gathered and have changed places
+  unfoldable pub straighten : State → State
+  straighten s = clearW (cond (divides d (vAt n s c j) (wAt n s c j)) s (exchange (gatherW s)))
+
+-- v of a Pauli is 0 at every qudit of a list
+abbrev pub noV : Pauli → List ℕ → Bool
+noV p [] = true
+noV p (j ∷ js) = eqb (getD (p .v) j 0) 0 && noV p js
+
+-- ---- one stage: column t becomes unit t and column n + t unit n + t, up to phases
 module _ (d n t : ℕ) where
   abbrev pub later : List ℕ
   later = upFrom (suc t) (n - suc t)
 
-  abbrev pub gatherInQudit : ℕ → State → State
-  gatherInQudit j s = putS d j (leastMultiplier d (wAt n s t j) (vAt n s t j)) s
+  -- t and the later ones
+  abbrev pub onward : List ℕ
+  onward = upFrom t (n - t)
 
-  abbrev pub gatherQudit : ℕ → State → State
-  gatherQudit j s = putA d t j (minus d (leastMultiplier d (wAt n s t t) (wAt n s t j))) s
+  -- gcd(v, d) at t is made to divide v at j
+  abbrev pub gather : ℕ → State → State
+  gather j s = putA d j t (leastMultiplier d (vAt n s t t) (vAt n s t j)) s
 
-  abbrev pub clearW : ℕ → State → State
-  clearW j s = putA d j t (minus d (wAt n s t j)) s
+  -- v at t is made 1
+  abbrev pub scale : State → State
+  scale s = putM d t (inverseOf d (vAt n s t t)) s
 
   abbrev pub clearV : ℕ → State → State
   clearV j s = putA d t j (minus d (vAt n s t j)) s
@@ -76,38 +107,32 @@ module _ (d n t : ℕ) where
   abbrev pub clearPartnerV : ℕ → State → State
   clearPartnerV j s = putA d t j (vAt n s (n + t) j % d) s
 
-  abbrev pub pivot : State → State
-  pivot s = putM d t (minus d (wAt n s t t)) s
+  abbrev pub shearPartner : State → State
+  shearPartner s = putS d t (wAt n s (n + t) t) s
 
-  abbrev pub shear : State → State
-  shear s = putS d t (minus d (wAt n s t t)) s
+  -- column t: w is made 0 everywhere; then gcd(v, d) at t divides every v, so that by pairing v at t is a unit
+  unfoldable pub gathered : State → State
+  gathered s = each gather later (each (straighten d n t) onward s)
 
-  abbrev pub partnerShear : State → State
-  partnerShear s = putS d t (wAt n s (n + t) t % d) s
+  -- and v is made 1 at t and 0 elsewhere
+  unfoldable pub firstColumn : State → State
+  firstColumn s = each clearV later (scale (gathered s))
 
-  abbrev pub fourierOnce : State → State
-  fourierOnce s = put d (F t 1) s
+  -- column n + t: w is made 0 at the later qudits, by one A for each where v is 0 at all of them
+  unfoldable pub partnerStraightened : State → State
+  partnerStraightened s =
+      cond (noV (column n (s .tableau) (n + t)) later) (each clearPartnerW later s) (each (straighten d n (n + t)) later s)
 
-  abbrev pub fourierBack : State → State
-  fourierBack s = put d (F t 3) s
+  -- v is made 0 everywhere, while w at t stays 1
+  unfoldable pub partnerTurned : State → State
+  partnerTurned s = put d (F t 3) (shearPartner (each clearPartnerV later (put d (F t 1) s)))
 
-  -- column t once its entries are gathered: gcd(w, d) at t divides every one
-  abbrev pub gathered : State → State
-  gathered s = each gatherQudit later (each gatherInQudit (t ∷ later) s)
+  -- where v isn't 0 everywhere already
+  unfoldable pub secondColumn : State → State
+  secondColumn s = cond (noV (column n (s .tableau) (n + t)) onward) s (partnerTurned s)
 
-  -- and cleared to unit t up to phase
-  abbrev pub cleared : State → State
-  cleared s = shear (each clearV later (fourierOnce (each clearW later (pivot s))))
-
-  abbrev pub firstColumn : State → State
-  firstColumn s = cleared (gathered s)
-
-  abbrev pub secondColumn : State → State
-  secondColumn s =
-      fourierBack (partnerShear (each clearPartnerV later (fourierOnce (each clearPartnerW later s))))
-
-  abbrev pub stage : State → State
-  stage s = secondColumn (firstColumn s)
+  unfoldable pub stage : State → State
+  stage s = secondColumn (partnerStraightened (firstColumn s))
 
 -- the phases of column i and column n + i, once the columns are units
 abbrev pub phases : ℕ → ℕ → ℕ → State → State
@@ -115,7 +140,7 @@ phases d n i s =
     let z = putZ d i (minus d (column n (s .tableau) i .phase / 2)) s in
     putX d i (column n (z .tableau) (n + i) .phase / 2 % d) z
 
-abbrev pub reduce : ℕ → ℕ → State → State
+unfoldable pub reduce : ℕ → ℕ → State → State
 reduce d n s = each (phases d n) (upFrom 0 n) (each (stage d n) (upFrom 0 n) s)
 
 -- the list that does the tableau: the rows' undo rows, the last one first, which is the order of the state

@@ -3,19 +3,17 @@ use crate::turns::Turn;
 use crate::turns::next_row;
 use gates::Row;
 ghost use mathlib.Core.Path.{_≡_};
-ghost use mathlib.Core.Bool.{true};
 ghost use mathlib.Core.List.{List, [], _∷_};
 ghost use Prim.Native.Nat.{ℕ, suc, _+_, _*_, _-_, _≤_, _<_};
 ghost use lib.ListN.{length};
 ghost use lib.Seq.{sets};
 ghost use Rattle.arith.specs.Refusals.{Dimension};
 ghost use Rattle.pauli.specs.Pauli.{Pauli};
-ghost use Rattle.gates.specs.Row.{undo};
-ghost use Rattle.gates.specs.Written.{written, meant, legalRow, encodeRows};
+ghost use Rattle.gates.specs.Written.{encodeRows};
 ghost use Rattle.gates.specs.View.{viewRow};
 ghost use Rattle.tableau.specs.View.{tableView, Shaped};
-ghost use Rattle.synthesis.specs.Reduce.{put, each, later};
-ghost use Rattle.synthesis.specs.Progress.{Does, withPower};
+ghost use Rattle.synthesis.specs.Reduce.{each, later};
+ghost use Rattle.synthesis.specs.Progress.{Does};
 ghost use Rattle.synthesis.specs.Turns.{turnOf, Asks};
 
 // Writes a row as row r of the output.
@@ -29,34 +27,7 @@ pub fn write_row(row: Row, out: &mut [u8], r: usize)
     arith::numbers::put(out, 4 * r + 3, row.power);
 }
 
-// Puts a legal row behind every column and writes its undo row behind those written: the same row with the power `back`.
-fn place(
-    t: &mut [[u16; 33]; 32],
-    row: Row,
-    back: u16,
-    d: u16,
-    n: usize,
-    out: &mut [u8],
-    count: &mut usize,
-)
-    requires { ⌜ Dimension d × (n ≤ 16) ⌝ }
-    requires { ⌜ (legalRow d n (viewRow row) ≡ true) × (written (undo d (meant (viewRow row))) ≡ withPower (viewRow row) back) ⌝ }
-    requires { ⌜ (8 * (now count + (1)) ≤ length (now out)) × Shaped (now t) ⌝ }
-    ensures { λ _. ⌜ Does d (1) (put d (meant (viewRow row))) (tableView n (now (t .entry))) (now (out .entry)) (now (count .entry)) (tableView n (now (t .exit))) (now (out .exit)) (now (count .exit)) × Shaped (now (t .exit)) ⌝ }
-{
-    tableau::table::put_columns(t, row, d, n);
-    let r = *count;
-    let undone = Row {
-        kind: row.kind,
-        first: row.first,
-        second: row.second,
-        power: back,
-    };
-    write_row(undone, out, r);
-    *count = r + 1;
-}
-
-// One turn: the row that it puts behind next, if there is one.
+// One turn: the row that it puts behind every column next, if there is one; its undo row is written behind those written.
 pub fn one_turn(
     t: &mut [[u16; 33]; 32],
     which: Turn,
@@ -73,12 +44,15 @@ pub fn one_turn(
     requires { ⌜ (8 * (now count + (1)) ≤ length (now out)) × Shaped (now t) ⌝ }
     ensures { λ _. ⌜ Does d (1) (turnOf which d n q j) (tableView n (now (t .entry))) (now (out .entry)) (now (count .entry)) (tableView n (now (t .exit))) (now (out .exit)) (now (count .exit)) × Shaped (now (t .exit)) ⌝ }
 {
-    let next = next_row(t, which, j, q, d, n);
-    let row = next.row;
+    let r = *count;
+    let after = r + 1;
+    let row = next_row(t, which, j, q, d, n);
     if row.power == 0 {
         return;
     }
-    place(t, row, next.back, d, n, out, count);
+    tableau::table::put_columns(t, row, d, n);
+    write_row(row.undo(d), out, r);
+    *count = after;
 }
 
 // A turn for every later qudit.

@@ -3,78 +3,116 @@
 use crate::put::each_later;
 use crate::put::one_turn;
 use crate::turns::Turn;
+use tableau::table::v_at;
+use tableau::table::w_at;
+ghost use mathlib.Core.Path.{_≡_};
 ghost use Prim.Native.Nat.{suc, _+_, _*_, _-_, _≤_, _<_};
 ghost use lib.ListN.{length};
 ghost use Rattle.arith.specs.Units.{Unit};
 ghost use Rattle.arith.specs.Refusals.{Dimension};
-ghost use Rattle.tableau.specs.Tableau.{WellFormed, Sound, upFrom};
+ghost use Rattle.tableau.specs.Tableau.{WellFormed, Sound, column, upFrom};
 ghost use Rattle.tableau.specs.View.{tableView, Shaped};
-ghost use Rattle.synthesis.specs.Reduce.{start, wAt, minus, each, gathered, cleared, firstColumn, secondColumn, stage, phases, reduce};
+ghost use Rattle.synthesis.specs.Reduce.{start, vAt, each, noV, straighten, gathered, firstColumn, partnerStraightened, secondColumn, stage, phases};
 ghost use Rattle.synthesis.specs.Progress.{Does};
 
-// Gathers the entries of column q: gcd(w, d) at q divides every one.
-fn gather(t: &mut [[u16; 33]; 32], q: usize, d: u16, n: usize, out: &mut [u8], count: &mut usize)
-    requires { ⌜ Dimension d × (n ≤ 16) ⌝ }
-    requires { ⌜ q < n ⌝ }
-    requires { ⌜ (8 * (now count + (2 * (n - suc q) + 1)) ≤ length (now out)) × Shaped (now t) ⌝ }
-    ensures { λ _. ⌜ Does d (2 * (n - suc q) + 1) (gathered d n q) (tableView n (now (t .entry))) (now (out .entry)) (now (count .entry)) (tableView n (now (t .exit))) (now (out .exit)) (now (count .exit)) × Shaped (now (t .exit)) ⌝ }
+// Whether v of column c is 0 at qudit `from` and every later one.
+fn no_v(t: &[[u16; 33]; 32], c: usize, from: usize, n: usize) -> bool
+    requires { ⌜ (n ≤ 16) × ((c < 2 * n) × (from ≤ n)) ⌝ }
+    ensures { λ r. ⌜ r ≡ noV (column n (tableView n (now (t .entry))) c) (upFrom from (n - from)) ⌝ }
 {
-    one_turn(t, Turn::GatherInQudit, q, q, d, n, out, count);
-    each_later(t, Turn::GatherInQudit, q, d, n, out, count);
-    each_later(t, Turn::GatherQudit, q, d, n, out, count);
+    for i in from..n {
+        if v_at(t, c, i).0 != 0 {
+            return false;
+        }
+    }
+    true
 }
 
-// Clears column q, once its entries are gathered, to unit q up to phase.
-fn clear(t: &mut [[u16; 33]; 32], q: usize, d: u16, n: usize, out: &mut [u8], count: &mut usize)
+// Column c is straightened at qudit j: w becomes 0 there.
+fn straighten(
+    t: &mut [[u16; 33]; 32],
+    c: usize,
+    j: usize,
+    d: u16,
+    n: usize,
+    out: &mut [u8],
+    count: &mut usize,
+)
     requires { ⌜ Dimension d × (n ≤ 16) ⌝ }
-    requires { ⌜ (q < n) × Unit d (minus d (wAt n (start (tableView n (now t))) q q)) ⌝ }
-    requires { ⌜ (8 * (now count + (2 * (n - suc q) + 3)) ≤ length (now out)) × Shaped (now t) ⌝ }
-    ensures { λ _. ⌜ Does d (2 * (n - suc q) + 3) (cleared d n q) (tableView n (now (t .entry))) (now (out .entry)) (now (count .entry)) (tableView n (now (t .exit))) (now (out .exit)) (now (count .exit)) × Shaped (now (t .exit)) ⌝ }
+    requires { ⌜ (c < 2 * n) × (j < n) ⌝ }
+    requires { ⌜ (8 * (now count + (3)) ≤ length (now out)) × Shaped (now t) ⌝ }
+    ensures { λ _. ⌜ Does d (3) (straighten d n c j) (tableView n (now (t .entry))) (now (out .entry)) (now (count .entry)) (tableView n (now (t .exit))) (now (out .exit)) (now (count .exit)) × Shaped (now (t .exit)) ⌝ }
 {
-    one_turn(t, Turn::Pivot, q, q, d, n, out, count);
-    each_later(t, Turn::ClearW, q, d, n, out, count);
-    one_turn(t, Turn::FourierOnce, q, q, d, n, out, count);
-    each_later(t, Turn::ClearV, q, d, n, out, count);
-    one_turn(t, Turn::Shear, q, q, d, n, out, count);
+    if arith::divisor::divides(v_at(t, c, j), w_at(t, c, j), d) {
+        one_turn(t, Turn::ClearW(c), j, j, d, n, out, count);
+        return;
+    }
+    one_turn(t, Turn::GatherW(c), j, j, d, n, out, count);
+    one_turn(t, Turn::Exchange(c), j, j, d, n, out, count);
+    one_turn(t, Turn::ClearW(c), j, j, d, n, out, count);
+}
+
+// Column c is straightened at qudit `from` and every later one.
+fn straighten_from(
+    t: &mut [[u16; 33]; 32],
+    c: usize,
+    from: usize,
+    d: u16,
+    n: usize,
+    out: &mut [u8],
+    count: &mut usize,
+)
+    requires { ⌜ Dimension d × (n ≤ 16) ⌝ }
+    requires { ⌜ (c < 2 * n) × (from ≤ n) ⌝ }
+    requires { ⌜ (8 * (now count + (3 * (n - from))) ≤ length (now out)) × Shaped (now t) ⌝ }
+    ensures { λ _. ⌜ Does d (3 * (n - from)) (each (straighten d n c) (upFrom from (n - from))) (tableView n (now (t .entry))) (now (out .entry)) (now (count .entry)) (tableView n (now (t .exit))) (now (out .exit)) (now (count .exit)) × Shaped (now (t .exit)) ⌝ }
+{
+    for j in from..n {
+        straighten(t, c, j, d, n, out, count);
+    }
 }
 
 // Column q becomes unit q up to phase.
-fn first_column(
-    t: &mut [[u16; 33]; 32],
-    q: usize,
-    d: u16,
-    n: usize,
-    out: &mut [u8],
-    count: &mut usize,
-)
+fn unit_x(t: &mut [[u16; 33]; 32], q: usize, d: u16, n: usize, out: &mut [u8], count: &mut usize)
     requires { ⌜ Dimension d × (n ≤ 16) ⌝ }
-    requires { ⌜ (q < n) × Unit d (minus d (wAt n (gathered d n q (start (tableView n (now t)))) q q)) ⌝ }
-    requires { ⌜ (8 * (now count + (4 * (n - suc q) + 4)) ≤ length (now out)) × Shaped (now t) ⌝ }
-    ensures { λ _. ⌜ Does d (4 * (n - suc q) + 4) (firstColumn d n q) (tableView n (now (t .entry))) (now (out .entry)) (now (count .entry)) (tableView n (now (t .exit))) (now (out .exit)) (now (count .exit)) × Shaped (now (t .exit)) ⌝ }
+    requires { ⌜ (q < n) × Unit d (vAt n (gathered d n q (start (tableView n (now t)))) q q) ⌝ }
+    requires { ⌜ (8 * (now count + (5 * (n - suc q) + 4)) ≤ length (now out)) × Shaped (now t) ⌝ }
+    ensures { λ _. ⌜ Does d (5 * (n - suc q) + 4) (firstColumn d n q) (tableView n (now (t .entry))) (now (out .entry)) (now (count .entry)) (tableView n (now (t .exit))) (now (out .exit)) (now (count .exit)) × Shaped (now (t .exit)) ⌝ }
 {
-    gather(t, q, d, n, out, count);
-    clear(t, q, d, n, out, count);
+    straighten_from(t, q, q, d, n, out, count);
+    each_later(t, Turn::Gather, q, d, n, out, count);
+    one_turn(t, Turn::Scale, q, q, d, n, out, count);
+    each_later(t, Turn::ClearV, q, d, n, out, count);
 }
 
-// Column n + q becomes unit n + q up to phase, and column q stays.
-fn second_column(
-    t: &mut [[u16; 33]; 32],
-    q: usize,
-    d: u16,
-    n: usize,
-    out: &mut [u8],
-    count: &mut usize,
-)
+// Column n + q: w becomes 0 at the later qudits, by one A for each where v is 0 at all of them.
+fn clear_w(t: &mut [[u16; 33]; 32], q: usize, d: u16, n: usize, out: &mut [u8], count: &mut usize)
     requires { ⌜ Dimension d × (n ≤ 16) ⌝ }
     requires { ⌜ q < n ⌝ }
-    requires { ⌜ (8 * (now count + (2 * (n - suc q) + 3)) ≤ length (now out)) × Shaped (now t) ⌝ }
-    ensures { λ _. ⌜ Does d (2 * (n - suc q) + 3) (secondColumn d n q) (tableView n (now (t .entry))) (now (out .entry)) (now (count .entry)) (tableView n (now (t .exit))) (now (out .exit)) (now (count .exit)) × Shaped (now (t .exit)) ⌝ }
+    requires { ⌜ (8 * (now count + (3 * (n - suc q))) ≤ length (now out)) × Shaped (now t) ⌝ }
+    ensures { λ _. ⌜ Does d (3 * (n - suc q)) (partnerStraightened d n q) (tableView n (now (t .entry))) (now (out .entry)) (now (count .entry)) (tableView n (now (t .exit))) (now (out .exit)) (now (count .exit)) × Shaped (now (t .exit)) ⌝ }
 {
-    each_later(t, Turn::ClearPartnerW, q, d, n, out, count);
-    one_turn(t, Turn::FourierOnce, q, q, d, n, out, count);
+    if no_v(t, n + q, q + 1, n) {
+        each_later(t, Turn::ClearPartnerW, q, d, n, out, count);
+        return;
+    }
+    straighten_from(t, n + q, q + 1, d, n, out, count);
+}
+
+// Column n + q becomes unit n + q up to phase, and column q stays; a column without v is there already.
+fn unit_z(t: &mut [[u16; 33]; 32], q: usize, d: u16, n: usize, out: &mut [u8], count: &mut usize)
+    requires { ⌜ Dimension d × (n ≤ 16) ⌝ }
+    requires { ⌜ q < n ⌝ }
+    requires { ⌜ (8 * (now count + (n - suc q + 3)) ≤ length (now out)) × Shaped (now t) ⌝ }
+    ensures { λ _. ⌜ Does d (n - suc q + 3) (secondColumn d n q) (tableView n (now (t .entry))) (now (out .entry)) (now (count .entry)) (tableView n (now (t .exit))) (now (out .exit)) (now (count .exit)) × Shaped (now (t .exit)) ⌝ }
+{
+    if no_v(t, n + q, q, n) {
+        return;
+    }
+    one_turn(t, Turn::Fourier(1), q, q, d, n, out, count);
     each_later(t, Turn::ClearPartnerV, q, d, n, out, count);
-    one_turn(t, Turn::PartnerShear, q, q, d, n, out, count);
-    one_turn(t, Turn::FourierBack, q, q, d, n, out, count);
+    one_turn(t, Turn::ShearPartner, q, q, d, n, out, count);
+    one_turn(t, Turn::Fourier(3), q, q, d, n, out, count);
 }
 
 // The stage of qudit q.
@@ -87,18 +125,19 @@ fn one_stage(
     count: &mut usize,
 ) -> [[u16; 33]; 32]
     requires { ⌜ Dimension d × (n ≤ 16) ⌝ }
-    requires { ⌜ (q < n) × Unit d (minus d (wAt n (gathered d n q (start (tableView n t))) q q)) ⌝ }
-    requires { ⌜ 8 * (now count + (6 * (n - suc q) + 7)) ≤ length (now out) ⌝ }
-    ensures { λ r. ⌜ Does d (6 * (n - suc q) + 7) (stage d n q) (tableView n t) (now (out .entry)) (now (count .entry)) (tableView n r) (now (out .exit)) (now (count .exit)) ⌝ }
+    requires { ⌜ (q < n) × Unit d (vAt n (gathered d n q (start (tableView n t))) q q) ⌝ }
+    requires { ⌜ 8 * (now count + (9 * (n - suc q) + 7)) ≤ length (now out) ⌝ }
+    ensures { λ r. ⌜ Does d (9 * (n - suc q) + 7) (stage d n q) (tableView n t) (now (out .entry)) (now (count .entry)) (tableView n r) (now (out .exit)) (now (count .exit)) ⌝ }
 {
     let mut s = t;
-    first_column(&mut s, q, d, n, out, count);
-    second_column(&mut s, q, d, n, out, count);
+    unit_x(&mut s, q, d, n, out, count);
+    clear_w(&mut s, q, d, n, out, count);
+    unit_z(&mut s, q, d, n, out, count);
     s
 }
 
 // The stages of all qudits. The tableau is sound, so that every pivot is a unit.
-fn all_stages(
+pub fn all_stages(
     t: [[u16; 33]; 32],
     d: u16,
     n: usize,
@@ -107,8 +146,8 @@ fn all_stages(
 ) -> [[u16; 33]; 32]
     requires { ⌜ Dimension d × (n ≤ 16) ⌝ }
     requires { ⌜ WellFormed d n (tableView n t) × Sound d n (tableView n t) ⌝ }
-    requires { ⌜ 8 * (now count + (3 * (n * n) + 4 * n)) ≤ length (now out) ⌝ }
-    ensures { λ r. ⌜ Does d (3 * (n * n) + 4 * n) (each (stage d n) (upFrom 0 n)) (tableView n t) (now (out .entry)) (now (count .entry)) (tableView n r) (now (out .exit)) (now (count .exit)) ⌝ }
+    requires { ⌜ 8 * (now count + (5 * (n * n) + 4 * n)) ≤ length (now out) ⌝ }
+    ensures { λ r. ⌜ Does d (5 * (n * n) + 4 * n) (each (stage d n) (upFrom 0 n)) (tableView n t) (now (out .entry)) (now (count .entry)) (tableView n r) (now (out .exit)) (now (count .exit)) ⌝ }
 {
     let mut s = t;
     for q in 0..n {
@@ -139,7 +178,7 @@ fn clear_phases(
 }
 
 // The phases of all columns.
-fn all_phases(
+pub fn all_phases(
     t: [[u16; 33]; 32],
     d: u16,
     n: usize,
@@ -156,21 +195,4 @@ fn all_phases(
         s = next;
     }
     s
-}
-
-// A sound tableau is reduced to the unit Paulis, and the undo rows of the rows that do it are written behind those of the output.
-pub fn reduced(
-    t: [[u16; 33]; 32],
-    d: u16,
-    n: usize,
-    out: &mut [u8],
-    count: &mut usize,
-) -> [[u16; 33]; 32]
-    requires { ⌜ Dimension d × (n ≤ 16) ⌝ }
-    requires { ⌜ WellFormed d n (tableView n t) × Sound d n (tableView n t) ⌝ }
-    requires { ⌜ 8 * (now count + (3 * (n * n) + 6 * n)) ≤ length (now out) ⌝ }
-    ensures { λ r. ⌜ Does d (3 * (n * n) + 6 * n) (reduce d n) (tableView n t) (now (out .entry)) (now (count .entry)) (tableView n r) (now (out .exit)) (now (count .exit)) ⌝ }
-{
-    let units = all_stages(t, d, n, out, count);
-    all_phases(units, d, n, out, count)
 }

@@ -27,9 +27,9 @@ pub fn is_unit(q: i64, d: i64) -> bool {
     gcd(q, d) == 1
 }
 
-/// The inverse of a unit q modulo d, by Euclid's algorithm: `x` and `y` keep
-/// x·q = a and y·q = b modulo d.
-pub fn inverse_of_unit(q: i64, d: i64) -> i64 {
+/// The greatest common divisor g of q and d, and a u with u·q = g modulo d, by
+/// Euclid's algorithm: `x` and `y` keep x·q = a and y·q = b modulo d.
+fn euclid(q: i64, d: i64) -> (i64, i64) {
     let (mut a, mut b) = (d, q);
     let (mut x, mut y) = (0, 1);
     while b != 0 {
@@ -37,8 +37,22 @@ pub fn inverse_of_unit(q: i64, d: i64) -> i64 {
         (a, b) = (b, a - times * b);
         (x, y) = (y, x - times * y);
     }
-    assert_eq!(a, 1, "{q} is not a unit modulo {d}");
-    x.rem_euclid(d)
+    (a, x)
+}
+
+/// The inverse of a unit q modulo d.
+pub fn inverse_of_unit(q: i64, d: i64) -> i64 {
+    let (g, u) = euclid(q, d);
+    assert_eq!(g, 1, "{q} is not a unit modulo {d}");
+    u.rem_euclid(d)
+}
+
+/// The first c, counted from 0, with c·a = b modulo d. There is one where
+/// gcd(a, d) divides b, and it is below d / gcd(a, d).
+pub fn quotient(a: i64, b: i64, d: i64) -> i64 {
+    let (g, u) = euclid(a, d);
+    assert_eq!(b % g, 0, "{b} is no multiple of {a} modulo {d}");
+    (b / g * u).rem_euclid(d / g)
 }
 
 /// The first m, counted from 0, with gcd(a + m·b, d) = gcd(gcd(a, b), d).
@@ -188,6 +202,17 @@ impl Row {
         p.w[i] = p.w[i].rem_euclid(d);
     }
 
+    /// Whether a legal row carries every Pauli to itself.
+    pub fn is_idle(&self, d: i64) -> bool {
+        let power = self.power as i64;
+        match self.kind {
+            F => power == 2 && d == 2,
+            S => power == d && d % 2 == 1,
+            M => power == 1,
+            _ => false,
+        }
+    }
+
     /// The legal row that undoes this one.
     fn undo(&self, d: i64) -> Row {
         let k = self.power as i64;
@@ -301,6 +326,14 @@ struct Reduction {
 }
 
 impl Reduction {
+    fn v(&self, column: usize, qudit: usize) -> i64 {
+        self.columns[column].v[qudit - 1]
+    }
+
+    fn w(&self, column: usize, qudit: usize) -> i64 {
+        self.columns[column].w[qudit - 1]
+    }
+
     /// Applies a row to all columns. The power may be any number; one that
     /// does nothing makes no row.
     fn row(&mut self, kind: u16, first: usize, second: usize, power: i64) {
@@ -324,16 +357,93 @@ impl Reduction {
         }
         self.undone.push(row.undo(self.d));
     }
+
+    /// Adds k·v to w at a qudit. S does so with power k and with power k + d;
+    /// the one nearer to 0 modulo 2d is used.
+    fn shear(&mut self, qudit: usize, k: i64) {
+        let k = k.rem_euclid(self.d);
+        if k != 0 {
+            let power = if 2 * k < self.d { k } else { k + self.d };
+            self.row(S, qudit, 0, power);
+        }
+    }
+
+    /// Makes w of a column 0 at a qudit. One S does it where gcd(v, d) divides
+    /// w. Elsewhere w first becomes a number whose divisor shared with d
+    /// divides v, and changes places with v up to a sign, by the power of F
+    /// that leaves the lower v.
+    fn straighten(&mut self, column: usize, qudit: usize) {
+        let d = self.d;
+        let (v, w) = (self.v(column, qudit), self.w(column, qudit));
+        if w % gcd(v, d) != 0 {
+            self.shear(qudit, least_multiplier(w, v, d));
+            let w = self.w(column, qudit);
+            self.row(F, qudit, 0, if d < 2 * w { 1 } else { 3 });
+        }
+        let (v, w) = (self.v(column, qudit), self.w(column, qudit));
+        self.shear(qudit, quotient(v, -w, d));
+    }
+
+    /// Makes columns t and n + t the unit Paulis t and n + t up to phase.
+    fn stage(&mut self, t: usize) {
+        let (d, n) = (self.d, self.columns.len() / 2);
+        let (a, b) = (t - 1, n + t - 1);
+        let later = t + 1..=n;
+
+        // a: clear its w, then gather the common divisor of its v at qudit t.
+        // By pairing that is a unit.
+        for j in t..=n {
+            self.straighten(a, j);
+        }
+        for j in later.clone() {
+            let m = least_multiplier(self.v(a, t), self.v(a, j), d);
+            self.row(A, j, t, m);
+        }
+        self.row(M, t, 0, inverse_of_unit(self.v(a, t), d));
+        // That made v of qudit t 1. Clear the other v with it.
+        for j in later.clone() {
+            self.row(A, t, j, -self.v(a, j));
+        }
+
+        // b: pairing with a makes its w of qudit t 1. Clear the later w, with
+        // that 1 where every later v is 0, else qudit by qudit. These rows
+        // keep a.
+        if later.clone().all(|j| self.v(b, j) == 0) {
+            for j in later.clone() {
+                self.row(A, j, t, self.w(b, j));
+            }
+        } else {
+            for j in later.clone() {
+                self.straighten(b, j);
+            }
+        }
+        // If a v is left, exchange, so that v of qudit t is −1, clear the rest
+        // with it, and exchange back.
+        if (t..=n).any(|j| self.v(b, j) != 0) {
+            self.row(F, t, 0, 1);
+            for j in later {
+                self.row(A, t, j, self.v(b, j));
+            }
+            self.shear(t, self.w(b, t));
+            self.row(F, t, 0, 3);
+        }
+    }
 }
 
 /// A list whose tableau is the given sound one.
 ///
-/// Stage t makes columns a = t and b = n + t the unit Paulis t and n + t up to
-/// phase, by rows on qudit t and later ones. The columns made before are zero
-/// there, so they stay. No entry need be a unit at the start: the least
-/// multiplier gathers the common divisor of a's entries, and pairing makes
-/// that a unit. At most 6m + 1 rows are made with m qudits left, and 2n for
-/// the phases, in all 3n² + 6n.
+/// Stage t makes columns t and n + t the unit Paulis t and n + t up to phase,
+/// by rows on qudit t and later ones. The columns made before are zero there,
+/// so they stay. No entry need be a unit at the start: the least multiplier
+/// gathers the common divisor of the entries of column t, and pairing makes
+/// that a unit. Columns that are unit Paulis up to phase take no row, so the
+/// identity has the empty list.
+///
+/// To straighten takes at most three rows; for prime d it takes one, F where v
+/// is 0 and S elsewhere. So with m qudits after t a stage makes at most 9m + 7
+/// rows, for prime d 5m + 5, with at most three A rows between t and each of
+/// the m. The phases take at most 2n rows, so there are at most
+/// (9n² + 9n) / 2 rows in all, for prime d (5n² + 9n) / 2.
 pub fn synthesis(tableau: &[Pauli], d: i64) -> Vec<Row> {
     let n = tableau.len() / 2;
     let mut r = Reduction {
@@ -342,41 +452,7 @@ pub fn synthesis(tableau: &[Pauli], d: i64) -> Vec<Row> {
         undone: Vec::new(),
     };
     for t in 1..=n {
-        let (a, b) = (t - 1, n + t - 1);
-        let later = t + 1..=n;
-
-        // a: gather its common divisor at w of qudit t, which is then a unit.
-        for j in t..=n {
-            let m = least_multiplier(r.columns[a].w[j - 1], r.columns[a].v[j - 1], d);
-            r.row(S, j, 0, m);
-        }
-        for j in later.clone() {
-            let m = least_multiplier(r.columns[a].w[t - 1], r.columns[a].w[j - 1], d);
-            r.row(A, t, j, -m);
-        }
-        r.row(M, t, 0, -r.columns[a].w[t - 1]);
-        // That made w of qudit t −1. Clear the other w with it.
-        for j in later.clone() {
-            r.row(A, j, t, -r.columns[a].w[j - 1]);
-        }
-        // Exchange, so that v of qudit t is 1, and clear the rest with it.
-        r.row(F, t, 0, 1);
-        for j in later.clone() {
-            r.row(A, t, j, -r.columns[a].v[j - 1]);
-        }
-        r.row(S, t, 0, -r.columns[a].w[t - 1]);
-
-        // b: pairing with a makes its w of qudit t 1. Clear the rest with it;
-        // these rows keep a.
-        for j in later.clone() {
-            r.row(A, j, t, r.columns[b].w[j - 1]);
-        }
-        r.row(F, t, 0, 1);
-        for j in later {
-            r.row(A, t, j, r.columns[b].v[j - 1]);
-        }
-        r.row(S, t, 0, r.columns[b].w[t - 1]);
-        r.row(F, t, 0, 3);
+        r.stage(t);
     }
     // Every column is now a unit Pauli with an even phase.
     for j in 1..=n {
@@ -386,4 +462,31 @@ pub fn synthesis(tableau: &[Pauli], d: i64) -> Vec<Row> {
     assert_eq!(r.columns, unit_tableau(n), "the tableau is sound");
     r.undone.reverse();
     r.undone
+}
+
+/// Says what a list of legal rows has that no list of synthesis has, by what
+/// is proved of them. Whether it has the right tableau is another matter.
+pub fn unexpected(rows: &[Row], d: i64, n: usize) -> Option<String> {
+    let count = rows.len();
+    if 2 * count > 9 * n * n + 9 * n {
+        return Some(format!("{count} rows are more than (9n² + 9n) / 2"));
+    }
+    let is_prime = (2..d).all(|k| d % k != 0);
+    if is_prime && 2 * count > 5 * n * n + 9 * n {
+        return Some(format!("{count} rows are more than (5n² + 9n) / 2"));
+    }
+    if let Some(place) = rows.iter().position(|row| row.is_idle(d)) {
+        return Some(format!("row {} does nothing", place + 1));
+    }
+    let mut between = vec![0; (n + 1) * (n + 1)];
+    for row in rows.iter().filter(|row| row.kind == A) {
+        let low = row.first.min(row.second) as usize;
+        let high = row.first.max(row.second) as usize;
+        let met = &mut between[low * (n + 1) + high];
+        *met += 1;
+        if *met > 3 {
+            return Some(format!("more than 3 A rows between {low} and {high}"));
+        }
+    }
+    None
 }

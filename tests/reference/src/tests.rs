@@ -22,6 +22,25 @@ fn row(kind: u16, first: u16, second: u16, power: u16) -> Row {
     }
 }
 
+/// A file of the text program: the header, then the lines, here parted by
+/// spaces.
+fn file(header: &str, lines: &str) -> Vec<u8> {
+    std::iter::once(header)
+        .chain(lines.split_whitespace())
+        .flat_map(|line| [line.as_bytes(), b"\n"].concat())
+        .collect()
+}
+
+/// Synthesises a sound tableau, and sees that the list is right.
+fn judged_synthesis(tableau: &[Pauli], d: i64) -> Vec<Row> {
+    let n = tableau.len() / 2;
+    let rows = synthesis(tableau, d);
+    assert!(rows.iter().all(|row| row.is_legal(d, n)));
+    assert_eq!(tableau_of_list(&rows, d, n), tableau);
+    assert_eq!(unexpected(&rows, d, n), None);
+    rows
+}
+
 /// 0, 7 or 8, through the public call.
 fn synthesis_number(tableau: &[Pauli], d: u16) -> u16 {
     let n = tableau.len() / 2;
@@ -94,6 +113,111 @@ fn example_of_the_text_program() {
     assert!(!text::is_right(printed, b"L,4,2\n") && !text::is_right(printed, b"R,7\n"));
 }
 
+/// The reduction row for row. The first tableau is c8; in the last one v of
+/// column n + 1 is 0 at one later qudit and not at the other.
+#[test]
+fn lists_found_for_tableaus() {
+    for (header, columns, rows) in [
+        (
+            "6,1",
+            "0,2,3 0,3,2",
+            "Z,1,0,3 F,1,0,1 S,1,0,11 F,1,0,3 S,1,0,2 F,1,0,3 S,1,0,11",
+        ),
+        (
+            "6,2",
+            "5,1,1,5,4 4,4,3,4,4 6,4,4,5,2 5,0,3,1,5",
+            "X,2,0,5 X,1,0,2 Z,1,0,1 F,2,0,1 S,2,0,3 F,2,0,3 M,2,0,5 S,2,0,2 F,1,0,1 S,1,0,2 \
+             F,1,0,3 A,2,1,2 A,1,2,1 S,2,0,10 S,1,0,11",
+        ),
+        (
+            "4,3",
+            "1,3,2,1,2,2,1 7,2,1,0,3,3,3 5,2,1,0,0,1,0 5,1,1,1,1,3,1 5,2,3,1,3,1,0 4,3,3,2,2,0,0",
+            "X,3,0,3 Z,2,0,3 Z,1,0,3 F,3,0,1 S,3,0,7 F,3,0,3 S,3,0,2 F,3,0,1 F,2,0,1 S,2,0,1 \
+             A,2,3,3 F,2,0,3 S,3,0,2 F,3,0,1 A,2,3,1 S,3,0,2 F,3,0,3 F,1,0,1 S,1,0,1 A,1,3,2 \
+             A,1,2,1 F,1,0,3 A,1,3,1 A,1,2,2 M,1,0,3 S,3,0,1 S,2,0,7 S,1,0,2",
+        ),
+        (
+            "12,2",
+            "23,5,8,3,3 9,6,1,9,3 13,7,3,11,6 15,7,2,11,4",
+            "X,2,0,11 X,1,0,11 Z,1,0,10 F,2,0,1 S,2,0,21 F,2,0,3 S,2,0,6 F,1,0,1 S,1,0,1 A,1,2,7 \
+             F,1,0,3 S,2,0,20 F,2,0,3 S,2,0,23 A,1,2,1 M,1,0,5 S,2,0,20 F,2,0,3 S,2,0,23 S,1,0,3",
+        ),
+        (
+            "6,3",
+            "0,0,0,0,1,0,0 1,0,1,0,4,5,0 8,0,0,1,2,0,0 2,5,2,0,0,0,4 4,0,1,0,0,0,0 4,0,0,0,0,0,1",
+            "X,3,0,4 Z,3,0,4 X,2,0,4 Z,2,0,4 X,1,0,5 F,3,0,1 F,2,0,1 S,2,0,11 F,2,0,3 S,2,0,11 \
+             F,1,0,1 A,1,3,4 A,1,2,4 F,1,0,3 F,3,0,3 F,1,0,1",
+        ),
+    ] {
+        let tableau = file(&format!("T,{header}"), columns);
+        let list = file(&format!("L,{header}"), rows);
+        assert_eq!(text::convert(&tableau), list, "{header}");
+        assert_eq!(text::convert(&list), tableau, "{header}");
+    }
+}
+
+#[test]
+fn lists_found_for_lists() {
+    for (header, rows, found) in [
+        ("L,4,2", "A,1,2,1", "A,1,2,1"),
+        ("L,4,2", "A,2,1,3", "A,2,1,3"),
+        ("L,4,3", "A,3,1,1 A,2,1,3", "A,3,1,1 A,2,1,3"),
+        ("L,6,2", "F,2,0,1", "F,2,0,1"),
+        ("L,6,2", "F,2,0,3", "F,2,0,3"),
+        ("L,2,2", "S,1,0,1", "S,1,0,1"),
+        ("L,6,2", "M,1,0,5", "M,1,0,5"),
+        ("L,3,2", "X,2,0,2", "X,2,0,2"),
+        ("L,3,2", "Z,2,0,2", "Z,2,0,2"),
+        (
+            "L,4,2",
+            "F,1,0,1 A,1,2,1 Z,2,0,3",
+            "Z,2,0,3 X,1,0,3 F,1,0,1 A,1,2,1 F,1,0,3 F,1,0,1",
+        ),
+    ] {
+        let tableau = text::convert(&file(header, rows));
+        assert_eq!(text::convert(&tableau), file(header, found), "{rows}");
+    }
+}
+
+#[test]
+fn the_identity_has_the_empty_list() {
+    for n in [1, 2, 3, 4, 8, 16] {
+        for d in DIMENSIONS {
+            assert_eq!(synthesis(&unit_tableau(n), d as i64), []);
+        }
+    }
+}
+
+/// The idle rows are those that keep every unit Pauli, and no others.
+#[test]
+fn idle_rows() {
+    for d in 2..=12 {
+        for kind in F..=Z {
+            for power in 1..2 * d as u16 {
+                let row = row(kind, 1, if kind == A { 2 } else { 0 }, power);
+                if row.is_legal(d, 2) {
+                    let keeps_all = tableau_of_list(&[row], d, 2) == unit_tableau(2);
+                    assert_eq!(row.is_idle(d), keeps_all, "d = {d}, {row:?}");
+                }
+            }
+        }
+    }
+}
+
+#[test]
+fn unexpected_lists() {
+    let found = |rows: &[Row], d, n| unexpected(rows, d, n).is_some();
+    let (f, a) = (row(F, 1, 0, 1), row(A, 1, 2, 1));
+    assert!(!found(&[f; 9], 6, 1) && found(&[f; 10], 6, 1));
+    assert!(!found(&[f; 7], 5, 1) && found(&[f; 8], 5, 1));
+    assert!(!found(&[f; 27], 4, 2) && found(&[f; 28], 4, 2));
+    assert!(!found(&[f; 19], 2, 2) && found(&[f; 20], 2, 2));
+    let back = row(A, 2, 1, 1);
+    assert!(!found(&[a, back, a], 3, 2) && found(&[a, back, a, back], 3, 2));
+    assert!(!found(&[[a; 3], [row(A, 3, 1, 1); 3]].concat(), 3, 3));
+    assert!(found(&[f, row(M, 1, 0, 1)], 3, 1) && !found(&[row(M, 1, 0, 2)], 3, 1));
+}
+
 #[test]
 fn limits_of_d_and_n() {
     for d in [0, 1, 2, 1024, 1025, u16::MAX] {
@@ -147,6 +271,11 @@ fn arithmetic_by_search() {
             }
             for b in 0..d {
                 assert!(least_multiplier(q, b, d) < d);
+                let found = (0..d).find(|c| (c * q - b) % d == 0);
+                assert_eq!(b % gcd(q, d) == 0, found.is_some());
+                if let Some(c) = found {
+                    assert_eq!((quotient(q, b, d), quotient(q, b - d, d)), (c, c));
+                }
             }
         }
     }
@@ -221,9 +350,7 @@ fn every_tableau_of_one_qudit() {
             );
             if is_sound {
                 sound += 1;
-                let rows = synthesis(&tableau, d);
-                assert!(rows.len() <= 9 && rows.iter().all(|row| row.is_legal(d, 1)));
-                assert_eq!(tableau_of_list(&rows, d, 1), tableau);
+                judged_synthesis(&tableau, d);
             }
         }
         assert_eq!(sound, reached.len());
@@ -241,11 +368,7 @@ fn lists_and_tableaus_agree() {
         let tableau = tableau_of_list(&rows, d, n);
         assert!(pairing_holds(&tableau, d) && parity_holds(&tableau, d));
 
-        let found = synthesis(&tableau, d);
-        assert!(found.len() <= 3 * n * n + 6 * n);
-        assert!(found.iter().all(|row| row.is_legal(d, n)));
-        assert_eq!(tableau_of_list(&found, d, n), tableau);
-
+        let found = judged_synthesis(&tableau, d);
         let (p, q) = (random.pauli(d, n), random.pauli(d, n));
         assert_eq!(image(&tableau, &p, d), run(&rows, &p, d));
         assert_eq!(image(&tableau, &p, d), run(&found, &p, d));
@@ -263,15 +386,25 @@ fn lists_and_tableaus_agree() {
     }
 }
 
+/// After a few rows many columns are still units, so the cases in which a step
+/// makes no row are tried.
+#[test]
+fn sparse_tableaus_are_reached() {
+    let mut random = Random::new(5, 0);
+    for _ in 0..2000 {
+        let d = random.pick(&DIMENSIONS) as i64;
+        let n = random.between(1, 5);
+        let count = random.between(0, 8);
+        judged_synthesis(&random.sound_tableau(count, d, n), d);
+    }
+}
+
 #[test]
 fn dense_tableaus_are_reached() {
     let mut random = Random::new(4, 0);
     for _ in 0..60 {
         let d = random.between(2, 1024) as i64;
         let n = random.pick(&[1, 2, 4, 8]);
-        let tableau = random.dense_tableau(d, n);
-        let rows = synthesis(&tableau, d);
-        assert!(rows.len() <= 3 * n * n + 6 * n);
-        assert_eq!(tableau_of_list(&rows, d, n), tableau);
+        judged_synthesis(&random.dense_tableau(d, n), d);
     }
 }

@@ -13,7 +13,7 @@ use Rattle.tableau.proofs.Accepted.{sized-good}
 use Rattle.tableau.proofs.Views.{fresh-shaped}
 use Rattle.synthesis.specs.Reduce.{synthesised}
 use Rattle.synthesis.specs.Demand3.{synthesisRefusal}
-use Rattle.synthesis.proofs.Count.{synthesised-length}
+use Rattle.synthesis.proofs.Theorem.{synthesis}
 use Rattle.synthesis.proofs.Handed.{square-small, refusal-parts, accepted-given, promise-accepted, promise-refused}
 use native.Mathlib.Omega.{arith}
 use borrow.Author.Needs.{needs}
@@ -68,8 +68,9 @@ counted c =
 cast-t19 : tie.Need-cast-t19
 cast-t19 c =
     let a = c .before .before .before .before .before .before .before .before .before .before .before .before .before .before .before .args in
-    let g = accepted-given (a .d) (a .n) (a .tableau .now) (length (a .out .now)) (passed (c .before .before .before .before)) .0 .given .width .n-high in
-    omega (arith, counted (c .before .before), synthesised-length (a .d) (a .n) (decodeTableau (a .n) (a .tableau .now)), square-small (a .n) g, g)
+    let w = accepted-given (a .d) (a .n) (a .tableau .now) (length (a .out .now)) (passed (c .before .before .before .before)) in
+    let g = w .0 .given .width .n-high in
+    omega (arith, counted (c .before .before), synthesis (w .0 .given .dimension .d-low) (w .0 .formed) (w .1) .short, square-small (a .n) g, g)
 
 returns-3 : tie.Need-returns-3
 returns-3 c =
