@@ -5,11 +5,12 @@ use mathlib.Core.Logic.{_≢_}
 use Prim.Native.Nat.{ℕ, _-_, _<_}
 use native.Mathlib.Omega.{arith}
 use Rattle.pauli.specs.Pauli.{Pauli}
-use Rattle.pauli.specs.Touched.{Touched, OnOne, OnTwo}
+use Rattle.pauli.specs.Touched.{Touched, touched, still, OnOne, OnTwo}
+use Rattle.pauli.proofs.Still.{Rests, still-rests, f-still, s-still, a-still, m-still, x-still, z-still}
 use Rattle.gates.specs.Row.{apply}
 use Rattle.gates.specs.Written.{WrittenRow, rowOfKind, meant, takesTwo, legalRow}
 use Rattle.gates.specs.View.{otherOf, Acts, ActsAt}
-use Rattle.gates.proofs.Written.{legal-first, legal-second}
+use Rattle.gates.proofs.Written.{Kind, kind-f, kind-s, kind-a, kind-m, kind-x, kind-z, legal-sort, legal-first, legal-second}
 
 -- the row of that kind is the row that is meant
 pub of-kind : (d : ℕ) (w : WrittenRow) (kind : ℕ) (p : Pauli) → w .kind ≡ kind → apply d (rowOfKind kind (w .first - 1) (w .second - 1) (w .power)) p ≡ apply d (meant w) p
@@ -36,3 +37,21 @@ legal-other d n w legal = by-kind (takesTwo (w .kind)) refl
     by-kind : (b : Bool) → takesTwo (w .kind) ≡ b → otherOf w < n
     by-kind true e = let s = legal-second d n w legal e in subst (λ (j : ℕ). j < n) (other-is w (w .kind) refl e) (omega arith)
     by-kind false e = let f = legal-first d n w legal in subst (λ (j : ℕ). j < n) (other-is w (w .kind) refl e) (omega arith)
+
+-- a legal row leaves a Pauli alone whose v and w are 0 at the row's qudits and whose phase is reduced
+pub acts-not : (d n : ℕ) (w : WrittenRow) (p : Pauli) → legalRow d n w ≡ true → still d (touched (w .first - 1) (otherOf w) p) ≡ true → apply d (meant w) p ≡ p
+acts-not d n w p legal e = by-kind (legal-sort d n w legal) refl
+  where
+    i : ℕ
+    i = w .first - 1
+
+    first : Rests d i p
+    first = still-rests d i (otherOf w) p e .0
+
+    by-kind : {kind : ℕ} → Kind kind → w .kind ≡ kind → apply d (meant w) p ≡ p
+    by-kind kind-f q = sym (of-kind d w 1 p q) ∙ f-still d i p first (w .power)
+    by-kind kind-s q = sym (of-kind d w 2 p q) ∙ s-still d i p first (w .power)
+    by-kind kind-a q = sym (of-kind d w 3 p q) ∙ a-still d i (w .second - 1) p first (subst (λ (j : ℕ). Rests d j p) (sym (other-is w 3 q refl)) (still-rests d i (otherOf w) p e .1)) (w .power)
+    by-kind kind-m q = sym (of-kind d w 4 p q) ∙ m-still d i p first (w .power)
+    by-kind kind-x q = sym (of-kind d w 5 p q) ∙ x-still d i p first (w .power)
+    by-kind kind-z q = sym (of-kind d w 6 p q) ∙ z-still d i p first (w .power)

@@ -25,7 +25,7 @@ pub first-fails : {a : Bool} (b : Bool) → a ≡ false → false ≡ (a && b)
 first-fails b e = rw e
 
 -- ---- the kinds
-data Kind : ℕ → Type 0 where
+pub data Kind : ℕ → Type 0 where
   kind-f : Kind 1
   kind-s : Kind 2
   kind-a : Kind 3
@@ -116,6 +116,9 @@ module _ (d n : ℕ) (w : WrittenRow) (legal : legalRow d n w ≡ true) where
 
   pub legal-highest : w .power ≤ highest d (w .kind)
   legal-highest = tests d n w legal .power-high
+
+  pub legal-sort : Kind (w .kind)
+  legal-sort = tests d n w legal .sort
 
   pub legal-kind : highest d (w .kind) ≡ 0 → ⊥
   legal-kind e = let t = tests d n w legal in omega arith

@@ -16,6 +16,7 @@ pub mod Lists
 pub mod Onto
 pub mod Ranges
 pub mod Step
+pub mod Still
 pub mod Sums
 pub mod Numbers
 pub mod Undo

@@ -1,7 +1,9 @@
 -- The numbers of a Pauli that a gate row touches: the phase, and v and w at its qudits i and j. Where the kind takes one qudit, j is i.
 use mathlib.Core.Path.{_≡_}
 use mathlib.Core.Logic.{_≢_}
-use Prim.Native.Nat.{ℕ, _<_}
+use mathlib.Core.Bool.{Bool, _&&_}
+use Prim.Native.Nat.{ℕ, _+_, _*_, _<_}
+use lib.Dec.{eqb, ltb}
 use lib.ListN.{length, getD, set}
 use Rattle.pauli.specs.Pauli.{Pauli}
 use Rattle.pauli.specs.declared.touched.Touched.{Touched as Code}
@@ -20,6 +22,10 @@ viewTouched t = record { phase = t .phase .0; vi = t .vi .0; wi = t .wi .0; vj =
 -- those of a Pauli
 abbrev pub touched : ℕ → ℕ → Pauli → Touched
 touched i j p = record { phase = p .phase; vi = getD (p .v) i 0; wi = getD (p .w) i 0; vj = getD (p .v) j 0; wj = getD (p .w) j 0 }
+
+-- no row changes them: v and w are 0 at both qudits, as their sums are, and the phase is below 2·d
+abbrev pub still : ℕ → Touched → Bool
+still d t = eqb (t .vi + t .wi) 0 && (eqb (t .vj + t .wj) 0 && ltb (t .phase) (2 * d))
 
 -- the Pauli with another phase, and x and z at qudit i
 abbrev pub placed : ℕ → ℕ → ℕ → ℕ → Pauli → Pauli

@@ -5,7 +5,7 @@ use arith::residue::Residue;
 ghost use mathlib.Core.Path.{_≡_};
 ghost use Rattle.arith.specs.Refusals.{Dimension};
 ghost use Rattle.arith.specs.Units.{inverseOf};
-ghost use Rattle.pauli.specs.Touched.{viewTouched, OnOne, OnTwo};
+ghost use Rattle.pauli.specs.Touched.{viewTouched, still, OnOne, OnTwo};
 ghost use Rattle.pauli.specs.Effects.{fourier, effectF, effectS, effectA, effectM, effectX, effectZ};
 
 pub struct Touched {
@@ -119,5 +119,24 @@ impl Touched {
         let z = self.wi;
         let moved = x.times(Residue(k), d).doubled(d);
         on_one(phase.plus(moved, d), x, z)
+    }
+
+    // Whether no row changes them: v and w are 0 at its qudits, and the phase is below 2d, so that no row reduces it.
+    // There is one test for v and w of a qudit, since a test of each is guessed wrongly more often.
+    pub fn still(self, d: u16) -> bool
+        requires { ⌜ Dimension d ⌝ }
+        ensures { λ r. ⌜ r ≡ still d (viewTouched self) ⌝ }
+    {
+        let phase = self.phase;
+        let x = self.vi;
+        let z = self.wi;
+        let y = self.vj;
+        let u = self.wj;
+        if (x.0 as u64) + (z.0 as u64) == 0 {
+            if (y.0 as u64) + (u.0 as u64) == 0 {
+                return phase.0 < 2 * d;
+            }
+        }
+        false
     }
 }

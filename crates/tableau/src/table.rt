@@ -153,7 +153,7 @@ fn replace(c: &mut [u16; 33], i: usize, j: usize, t: Touched)
     c[17 + j] = u.0;
 }
 
-// A legal row put behind a column.
+// A legal row put behind a column. Many columns have 0 at its qudits, and stay as they are.
 fn put_column(c: &mut [u16; 33], row: Ready, d: u16, n: usize)
     requires { ⌜ Dimension d × (n ≤ 16) ⌝ }
     requires { ⌜ (legalRow d n (viewRow (row .row)) ≡ true) × InverseRight d row ⌝ }
@@ -164,6 +164,9 @@ fn put_column(c: &mut [u16; 33], row: Ready, d: u16, n: usize)
     let i = written.first as usize - 1;
     let j = row.other();
     let old = touched(c, i, j);
+    if old.still(d) {
+        return;
+    }
     replace(c, i, j, row.act(old, d));
 }
 
