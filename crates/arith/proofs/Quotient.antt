@@ -3,7 +3,7 @@ use mathlib.Core.Path.{_≡_, refl, sym, _∙_, ap, subst}
 use mathlib.Core.Bool.{Bool, true, false, not}
 use mathlib.Core.List.{[], _∷_}
 use mathlib.Core.Logic.{_≢_}
-use Prim.Native.Nat.{ℕ, zero, suc, _+_, _*_, _-_, _/_, _%_, _<_}
+use Prim.Native.Nat.{ℕ, zero, suc, _+_, _*_, _-_, _/_, _%_, _≤_, _<_}
 use native.Mathlib.Nat.{mod-lt, mod-add-div', zero-mod, mul-assoc, mul-comm}
 use native.Mathlib.Omega.{arith}
 use lib.Dec.{T, eqb, eqb→eq, eqb-refl}
@@ -169,3 +169,19 @@ minus-dvd d w g p gd h = dvd-rest (neg d w % d) w (dvd-resp gd (cong-sym (cong-t
 -- k·v ≡ −w makes w + k·v 0
 pub level-zero : (d w k v : ℕ) → 0 < d → Cong d (k * v) (neg d w % d) → (w + k * v) % d ≡ 0
 level-zero d w k v p h = mod-of (w + k * v) (cong-trans (cong-add (cong-refl w) h) (minus-sum d w p)) p
+
+-- whether there is a quotient of −b tells whether b is a multiple of a
+module _ (d a b : ℕ) (pos : 0 < d) where
+  pub quotient-tells : quotient d a (neg d b % d) < d → divides d a b ≡ true
+  quotient-tells l = go (divides d a (neg d b % d)) refl
+    where
+      go : (x : Bool) → divides d a (neg d b % d) ≡ x → divides d a b ≡ true
+      go true e = dvd-divides d a b (minus-dvd d b (gcd a d) pos (gcd-right a d) (divides-dvd d a (neg d b % d) e))
+      go false e = absurd (omega (arith, quotient-none d a (neg d b % d) pos e))
+
+  pub quotient-tells-none : d ≤ quotient d a (neg d b % d) → divides d a b ≡ false
+  quotient-tells-none l = go (divides d a b) refl
+    where
+      go : (x : Bool) → divides d a b ≡ x → x ≡ false
+      go true e = absurd (omega (arith, quotient-below d a (neg d b % d) pos (dvd-minus d b (gcd a d) pos (gcd-right a d) (divides-dvd d a b e))))
+      go false e = refl

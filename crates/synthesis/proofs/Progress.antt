@@ -103,6 +103,10 @@ module _ {d : ℕ} {t t′ : List Pauli} {out out′ : List ℕ} {count count′
   pub does-test : {k : ℕ} (f : Bool → State → State) (test : List Pauli → Bool) {b : Bool} → test t ≡ b → Does d k (f b) t out count t′ out′ count′ → Does d k (λ s. f (test (s .tableau)) s) t out count t′ out′ count′
   does-test f test e a = does-as (λ s. f (test (s .tableau)) s) (λ s h. ap (λ (x : Bool). f x s) (sym e ∙ ap test h)) a
 
+  -- a step whose power is read off the tableau
+  pub does-power : {m k : ℕ} (f : ℕ → State → State) (power : List Pauli → ℕ) → k ≡ power t → Does d m (f k) t out count t′ out′ count′ → Does d m (λ s. f (power (s .tableau)) s) t out count t′ out′ count′
+  does-power f power e a = does-as (λ s. f (power (s .tableau)) s) (λ s h. ap (λ (x : ℕ). f x s) (e ∙ ap power h)) a
+
   -- the state at the end, from the start
   pub does-from : {k : ℕ} {f : State → State} → Does d k f t out count t′ out′ count′ → Holds d count out t′ out′ count′ (f (start t))
   does-from a = a .does count out (start t) holds-start

@@ -68,9 +68,12 @@ module _ (d n c j : ℕ) where
   abbrev pub exchange : State → State
   exchange s = put d (F j (cond (ltb d (2 * wAt n s c j)) 1 3)) s
 
-  -- S, which makes w 0 where gcd(v, d) divides it
+  -- the power of S that makes w 0, where gcd(v, d) divides it; d else, which puts no row
+  abbrev pub clearing : List Pauli → ℕ
+  clearing t = quotient d (getD (column n t c .v) j 0) (minus d (getD (column n t c .w) j 0))
+
   abbrev pub clearW : State → State
-  clearW s = putS d j (quotient d (vAt n s c j) (minus d (wAt n s c j))) s
+  clearW s = putS d j (clearing (s .tableau)) s
 
   -- where gcd(v, d) doesn't divide w, it does so once they are gathered and have changed places
   unfoldable pub straighten : State → State

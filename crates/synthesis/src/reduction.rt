@@ -12,7 +12,7 @@ ghost use Rattle.arith.specs.Units.{Unit};
 ghost use Rattle.arith.specs.Refusals.{Dimension};
 ghost use Rattle.tableau.specs.Tableau.{WellFormed, Sound, column, upFrom};
 ghost use Rattle.tableau.specs.View.{tableView, Shaped};
-ghost use Rattle.synthesis.specs.Reduce.{start, vAt, each, noV, straighten, gathered, firstColumn, partnerStraightened, secondColumn, stage, phases};
+ghost use Rattle.synthesis.specs.Reduce.{start, vAt, each, clearing, noV, straighten, gathered, firstColumn, partnerStraightened, secondColumn, stage, phases};
 ghost use Rattle.synthesis.specs.Progress.{Does};
 
 // Whether v of column c is 0 at qudit `from` and every later one.
@@ -26,6 +26,15 @@ fn no_v(t: &[[u16; 33]; 32], c: usize, from: usize, n: usize) -> bool
         }
     }
     true
+}
+
+// The power of S that makes w of column c 0 at qudit j; d where there is none.
+fn clearing(t: &[[u16; 33]; 32], c: usize, j: usize, d: u16, n: usize) -> u16
+    requires { ⌜ Dimension d × (n ≤ 16) ⌝ }
+    requires { ⌜ (c < 2 * n) × (j < n) ⌝ }
+    ensures { λ r. ⌜ r ≡ clearing d n c j (tableView n (now (t .entry))) ⌝ }
+{
+    arith::divisor::quotient(v_at(t, c, j), w_at(t, c, j).negative(d), d)
 }
 
 // Column c is straightened at qudit j: w becomes 0 there.
@@ -43,13 +52,15 @@ fn straighten(
     requires { ⌜ (8 * (now count + (3)) ≤ length (now out)) × Shaped (now t) ⌝ }
     ensures { λ _. ⌜ Does d (3) (straighten d n c j) (tableView n (now (t .entry))) (now (out .entry)) (now (count .entry)) (tableView n (now (t .exit))) (now (out .exit)) (now (count .exit)) × Shaped (now (t .exit)) ⌝ }
 {
-    if arith::divisor::divides(v_at(t, c, j), w_at(t, c, j), d) {
-        one_turn(t, Turn::ClearW(c), j, j, d, n, out, count);
+    let k = clearing(t, c, j, d, n);
+    if k < d {
+        one_turn(t, Turn::Shear(k), j, j, d, n, out, count);
         return;
     }
     one_turn(t, Turn::GatherW(c), j, j, d, n, out, count);
     one_turn(t, Turn::Exchange(c), j, j, d, n, out, count);
-    one_turn(t, Turn::ClearW(c), j, j, d, n, out, count);
+    let last = clearing(t, c, j, d, n);
+    one_turn(t, Turn::Shear(last), j, j, d, n, out, count);
 }
 
 // Column c is straightened at qudit `from` and every later one.

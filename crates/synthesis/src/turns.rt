@@ -19,11 +19,11 @@ ghost use Rattle.synthesis.specs.Reduce.{putS, putM};
 ghost use Rattle.synthesis.specs.Progress.{Says};
 ghost use Rattle.synthesis.specs.Turns.{turnOf, Asks};
 
-// The turns: those of column c at qudit j, those of a later qudit j, those of the stage's qudit q, and those of its phases.
+// The turns: those of column c at qudit j, S on qudit j with power k, those of a later qudit j, those of the stage's qudit q, and those of its phases.
 pub enum Turn {
     GatherW(usize),
     Exchange(usize),
-    ClearW(usize),
+    Shear(u16),
     Gather,
     Scale,
     ClearV,
@@ -119,11 +119,7 @@ pub fn next_row(t: &[[u16; 33]; 32], which: Turn, j: usize, q: usize, d: u16, n:
             d,
         ),
         Turn::Exchange(c) => on_one(1, j, exchange_power(w_at(t, c, j), d)),
-        Turn::ClearW(c) => by_s(
-            j,
-            arith::divisor::quotient(v_at(t, c, j), w_at(t, c, j).negative(d), d),
-            d,
-        ),
+        Turn::Shear(k) => by_s(j, k, d),
         Turn::Gather => by_a(
             j,
             q,
