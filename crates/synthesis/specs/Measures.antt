@@ -29,15 +29,16 @@ onA f (Z i k) = 0
 abbrev pub countA : List Row → ℕ
 countA rows = weigh (onA (λ i j. 1)) rows
 
--- the number of those from qudit p to qudit q, and from q to p
+-- 1 where i is p and j is q
 abbrev pub both : ℕ → ℕ → ℕ → ℕ → ℕ
 both p q i j = cond (eqb i p) (cond (eqb j q) 1 0) 0
 
+-- the number of A rows from qudit p to qudit q and from q to p
 abbrev pub countBetween : ℕ → ℕ → List Row → ℕ
 countBetween p q rows = weigh (onA (λ i j. both p q i j + both q p i j)) rows
 
--- a row isn't F with power 2 (for d = 2 it does nothing to the entries), S with power d (for an odd d it does nothing), M with power 1, nor A, X or Z with
--- power 0 (they do nothing)
+-- a row isn't F with power 2 (which does nothing for d = 2), S with power d (which does nothing for an odd d), M with power 1, nor A, X or Z with power 0 (which do
+-- nothing for any d)
 abbrev pub Busy : ℕ → Row → Type 0
 Busy d (F i k) = k ≢ 2
 Busy d (S i k) = k ≢ d
@@ -46,6 +47,7 @@ Busy d (M i k) = k ≢ 1
 Busy d (X i k) = k ≢ 0
 Busy d (Z i k) = k ≢ 0
 
+-- every row of a list
 pub data AllBusy (d : ℕ) : List Row → Type 0 where
   nil : AllBusy d []
   cons : {r : Row} {rs : List Row} → Busy d r → AllBusy d rs → AllBusy d (r ∷ rs)

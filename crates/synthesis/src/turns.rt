@@ -94,7 +94,7 @@ fn by_s(i: usize, k: u16, d: u16) -> Row
     on_one(2, i, low + d)
 }
 
-// M on qudit i.
+// M on qudit i; a power of 1 is no row.
 fn by_m(i: usize, k: Residue) -> Row
     requires { ⌜ i < 16 ⌝ }
     ensures { λ r. ⌜ ((d n : ℕ) (t : List Pauli) → 1 < d → k .0 < d → Unit d (k .0) → i < n → Says d n (putM d i (k .0)) t (viewRow r)) ⌝ }
