@@ -14,8 +14,8 @@ unfoldable pub firstBelow : (ℕ → Bool) → ℕ → ℕ
 firstBelow test bound = firstFrom test bound 0
 
 -- a unit: gcd(q, d) = 1
-abbrev pub Unit : ℕ → ℕ → Type 0
-Unit d q = gcd q d ≡ 1
+abbrev pub IsUnit : ℕ → ℕ → Type 0
+IsUnit d q = gcd q d ≡ 1
 
 -- q', the inverse of a unit q: the first x below d with q·x = 1 modulo d
 unfoldable pub inverseOf : ℕ → ℕ → ℕ

@@ -10,7 +10,7 @@ use lib.ListN.{length, getD, List·getD-append}
 use lib.Dec.{leb, eqb}
 use borrow.Author.Tests.{leb-true, eqb-true, eqb-false, not-true, le-leb, eq-eqb, ne-eqb}
 use Rattle.arith.specs.Gcd.{gcd}
-use Rattle.arith.specs.Units.{Unit as IsUnit, inverseOf}
+use Rattle.arith.specs.Units.{IsUnit, inverseOf}
 use Rattle.arith.specs.Bytes.{tab, numberAt}
 use Rattle.arith.proofs.Bytes.{tab-more, tab-ext, tab-list, number-bytes, bytes-length}
 use Rattle.arith.proofs.Refusals.{both-held}

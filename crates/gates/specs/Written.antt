@@ -36,13 +36,13 @@ written (Z i k) = onOne 6 i k
 
 -- ---- what a written row means
 -- the line of a kind in a table whose lines are the kinds from 1 on; `other` where there is no such kind
-abbrev pub line : {A : Type 0} → List A → ℕ → A → A
-line lines zero other = other
-line lines (suc kind) other = getD lines kind other
+abbrev pub ofKind : {A : Type 0} → List A → ℕ → A → A
+ofKind lines zero other = other
+ofKind lines (suc kind) other = getD lines kind other
 
 -- the row of a kind with power k, on the qudits i and j counted from 0. (What no kind has is never asked: such a row isn't legal.)
 abbrev pub rowOfKind : ℕ → ℕ → ℕ → ℕ → Row
-rowOfKind kind i j k = line (F i k ∷ S i k ∷ A i j k ∷ M i k ∷ X i k ∷ Z i k ∷ []) kind (F i k)
+rowOfKind kind i j k = ofKind (F i k ∷ S i k ∷ A i j k ∷ M i k ∷ X i k ∷ Z i k ∷ []) kind (F i k)
 
 unfoldable pub meant : WrittenRow → Row
 meant w = rowOfKind (w .kind) (w .first - 1) (w .second - 1) (w .power)
@@ -54,7 +54,7 @@ between low high x = leb low x && leb x high
 
 -- the highest legal power of F, S, A, M, X and Z; no power of any other kind is legal
 abbrev pub highest : ℕ → ℕ → ℕ
-highest d kind = line (3 ∷ (2 * d - 1) ∷ (d - 1) ∷ (d - 1) ∷ (d - 1) ∷ (d - 1) ∷ []) kind 0
+highest d kind = ofKind (3 ∷ (2 * d - 1) ∷ (d - 1) ∷ (d - 1) ∷ (d - 1) ∷ (d - 1) ∷ []) kind 0
 
 -- a legal power: 1 to the highest, for M a unit
 abbrev pub legalPower : ℕ → ℕ → ℕ → Bool

@@ -6,7 +6,7 @@ ghost use mathlib.Core.Path.{_≡_};
 ghost use mathlib.Core.Bool.{true};
 ghost use Prim.Native.Nat.{ℕ, _≤_};
 ghost use Rattle.arith.specs.Refusals.{Dimension};
-ghost use Rattle.arith.specs.Units.{Unit};
+ghost use Rattle.arith.specs.Units.{IsUnit};
 ghost use Rattle.pauli.specs.View.{view};
 ghost use Rattle.pauli.specs.Touched.{viewTouched};
 ghost use Rattle.gates.specs.Row.{apply, undo};
@@ -127,7 +127,7 @@ impl Row {
 
     // The row with what its effect needs besides.
     pub fn ready(self, d: u16) -> Ready
-        requires { ⌜ Dimension d × (self .kind ≡ 4 → Unit d (self .power)) ⌝ }
+        requires { ⌜ Dimension d × (self .kind ≡ 4 → IsUnit d (self .power)) ⌝ }
         ensures { λ r. ⌜ (r .row ≡ self) × InverseRight d r ⌝ }
     {
         let kind = self.kind;

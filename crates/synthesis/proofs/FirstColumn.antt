@@ -14,7 +14,7 @@ use Rattle.arith.proofs.Remainders.{mod-of}
 use Rattle.arith.proofs.Divides.{Dvd, dvd-zero, dvd-trans, dvd-as, dvd-resp, dvd-rest, dvd-one}
 use Rattle.arith.specs.Gcd.{gcd}
 use Rattle.arith.proofs.Gcd.{gcd-left, gcd-right, gcd-greatest}
-use Rattle.arith.specs.Units.{Unit, leastMultiplier, inverseOf}
+use Rattle.arith.specs.Units.{IsUnit, leastMultiplier, inverseOf}
 use Rattle.arith.proofs.Units.{least-below, least-gcd, inverse-below, inverse-pos, inverse-unit, scaled-one}
 use Rattle.pauli.specs.Pauli.{Pauli, InRange, dot}
 use Rattle.pauli.proofs.Dots.{dvd-dot}
@@ -188,7 +188,7 @@ module _ {d n : ℕ} (one : 1 < d) {t₀ : List Pauli} {t : ℕ} (tn : t < n) wh
   gathered-law s b = let s1 = each (straighten d n t) (onward d n t) s in later-law (Gathering d n t₀ t) (gather d n t) d n t s1 tn (gather-start s1 (straightened-law s b)) gather-step
 
   -- the number that M inverts is a unit
-  pub pivot-unit : (s : State) → Base d n t₀ t s → Unit d (vAt n (gathered d n t s) t t)
+  pub pivot-unit : (s : State) → Base d n t₀ t s → IsUnit d (vAt n (gathered d n t s) t t)
   pivot-unit s b = v-unit (gathered-law s b)
 
   pub first-law : (s : State) → Base d n t₀ t s → FirstDone d n t₀ t (firstColumn d n t s)

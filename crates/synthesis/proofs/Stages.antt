@@ -4,7 +4,7 @@ use mathlib.Core.List.{List}
 use Prim.Native.Nat.{ℕ, suc, _+_, _*_, _-_, _≤_, _<_}
 use native.Mathlib.Numerals.{add-one}
 use native.Mathlib.Omega.{arith}
-use Rattle.arith.specs.Units.{Unit}
+use Rattle.arith.specs.Units.{IsUnit}
 use Rattle.pauli.specs.Pauli.{Pauli}
 use Rattle.tableau.specs.Tableau.{WellFormed, Sound, upFrom}
 use Rattle.synthesis.specs.Reduce.{State, start, vAt, each, gathered, stage}
@@ -34,6 +34,6 @@ up-all f j s = let e : j - 0 ≡ j = omega arith in ap (λ (m : ℕ). each f (up
 
 -- the pivot at the tableau u that the stages before q have led to
 pub unit-at : {d n : ℕ} {t u : List Pauli} → 1 < d → WellFormed d n t → Sound d n t → (q : ℕ) → q < n → u ≡ upTo (stage d n) 0 q (start t) .tableau
-    → Unit d (vAt n (gathered d n q (start u)) q q)
+    → IsUnit d (vAt n (gathered d n q (start u)) q q)
 unit-at {d} {n} {t} {u} one formed sound q l e =
-    subst (λ (x : List Pauli). Unit d (vAt n (gathered d n q (start x)) q q)) (sym (e ∙ ap (λ (s : State). s .tableau) (up-all (stage d n) q (start t)))) (stage-unit one formed sound q l)
+    subst (λ (x : List Pauli). IsUnit d (vAt n (gathered d n q (start x)) q q)) (sym (e ∙ ap (λ (s : State). s .tableau) (up-all (stage d n) q (start t)))) (stage-unit one formed sound q l)

@@ -5,7 +5,7 @@ use Prim.Native.Nat.{ℕ, _+_, _*_, _≤_, _<_}
 use native.Mathlib.Nat.{not-suc-le-zero}
 use native.Mathlib.Omega.{arith}
 use lib.ListN.{length}
-use Rattle.arith.specs.Units.{Unit}
+use Rattle.arith.specs.Units.{IsUnit}
 use Rattle.pauli.specs.Pauli.{Pauli}
 use Rattle.gates.specs.Row.{Row, AllLegal, none, run, undo}
 use Rattle.gates.proofs.Run.{runLast, run-undoes, undo-legal}
@@ -45,7 +45,7 @@ module _ {d n : ℕ} {t : List Pauli} (one : 1 < d) (formed : WellFormed d n t) 
   }
 
   -- the pivot of stage j is a unit
-  pub stage-unit : (j : ℕ) → j < n → Unit d (vAt n (gathered d n j (start (each (stage d n) (upFrom 0 j) (start t) .tableau))) j j)
+  pub stage-unit : (j : ℕ) → j < n → IsUnit d (vAt n (gathered d n j (start (each (stage d n) (upFrom 0 j) (start t) .tableau))) j j)
   stage-unit j jn = pivot-unit one jn (start (each (stage d n) (upFrom 0 j) (start t) .tableau)) (restart (stages-law one (start t) start-base j (omega arith)))
 
   -- the state at the end

@@ -8,7 +8,7 @@ use tableau::table::w_at;
 ghost use mathlib.Core.Path.{_≡_};
 ghost use Prim.Native.Nat.{suc, _+_, _*_, _-_, _≤_, _<_};
 ghost use lib.ListN.{length};
-ghost use Rattle.arith.specs.Units.{Unit};
+ghost use Rattle.arith.specs.Units.{IsUnit};
 ghost use Rattle.arith.specs.Refusals.{Dimension};
 ghost use Rattle.tableau.specs.Tableau.{WellFormed, Sound, column, upFrom};
 ghost use Rattle.tableau.specs.View.{tableView, Shaped};
@@ -86,7 +86,7 @@ fn straighten_from(
 // Column q becomes unit q up to phase.
 fn unit_x(t: &mut [[u16; 33]; 32], q: usize, d: u16, n: usize, out: &mut [u8], count: &mut usize)
     requires { ⌜ Dimension d × (n ≤ 16) ⌝ }
-    requires { ⌜ (q < n) × Unit d (vAt n (gathered d n q (start (tableView n (now t)))) q q) ⌝ }
+    requires { ⌜ (q < n) × IsUnit d (vAt n (gathered d n q (start (tableView n (now t)))) q q) ⌝ }
     requires { ⌜ (8 * (now count + (5 * (n - suc q) + 4)) ≤ length (now out)) × Shaped (now t) ⌝ }
     ensures { λ _. ⌜ Does d (5 * (n - suc q) + 4) (firstColumn d n q) (tableView n (now (t .entry))) (now (out .entry)) (now (count .entry)) (tableView n (now (t .exit))) (now (out .exit)) (now (count .exit)) × Shaped (now (t .exit)) ⌝ }
 {
@@ -136,7 +136,7 @@ fn one_stage(
     count: &mut usize,
 ) -> [[u16; 33]; 32]
     requires { ⌜ Dimension d × (n ≤ 16) ⌝ }
-    requires { ⌜ (q < n) × Unit d (vAt n (gathered d n q (start (tableView n t))) q q) ⌝ }
+    requires { ⌜ (q < n) × IsUnit d (vAt n (gathered d n q (start (tableView n t))) q q) ⌝ }
     requires { ⌜ 8 * (now count + (9 * (n - suc q) + 7)) ≤ length (now out) ⌝ }
     ensures { λ r. ⌜ Does d (9 * (n - suc q) + 7) (stage d n q) (tableView n t) (now (out .entry)) (now (count .entry)) (tableView n r) (now (out .exit)) (now (count .exit)) ⌝ }
 {

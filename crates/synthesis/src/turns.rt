@@ -9,7 +9,7 @@ ghost use mathlib.Core.Bool.{cond};
 ghost use mathlib.Core.List.{List};
 ghost use Prim.Native.Nat.{ℕ, _*_, _%_, _≤_, _<_};
 ghost use lib.Dec.{ltb};
-ghost use Rattle.arith.specs.Units.{Unit};
+ghost use Rattle.arith.specs.Units.{IsUnit};
 ghost use Rattle.arith.specs.Refusals.{Dimension};
 ghost use Rattle.pauli.specs.Pauli.{Pauli};
 ghost use Rattle.gates.specs.Written.{onOne, onTwo};
@@ -97,7 +97,7 @@ fn by_s(i: usize, k: u16, d: u16) -> Row
 // M on qudit i; a power of 1 is no row.
 fn by_m(i: usize, k: Residue) -> Row
     requires { ⌜ i < 16 ⌝ }
-    ensures { λ r. ⌜ ((d n : ℕ) (t : List Pauli) → 1 < d → k .0 < d → Unit d (k .0) → i < n → Says d n (putM d i (k .0)) t (viewRow r)) ⌝ }
+    ensures { λ r. ⌜ ((d n : ℕ) (t : List Pauli) → 1 < d → k .0 < d → IsUnit d (k .0) → i < n → Says d n (putM d i (k .0)) t (viewRow r)) ⌝ }
 {
     if k.0 == 1 {
         return on_one(4, i, 0);

@@ -3,17 +3,17 @@ use mathlib.Core.Path.{_≡_, refl, sym, _∙_}
 use mathlib.Core.List.{List, _∷_}
 use Prim.Native.Nat.{ℕ, zero, suc, _<_}
 use lib.ListN.{length, getD, List·getD-eq-default}
-use Rattle.gates.specs.Written.{line}
+use Rattle.gates.specs.Written.{ofKind}
 use native.Mathlib.Omega.{arith}
 use borrow.Author.Needs.{needs}
 use Rattle.gates.proofs.highest_power.Statement.{statement}
 use Rattle.gates.proofs.highest_power.Tie as tie
 
-in-front : (lines : List ℕ) (kind : ℕ) → getD (0 ∷ lines) kind 0 ≡ line lines kind 0
+in-front : (lines : List ℕ) (kind : ℕ) → getD (0 ∷ lines) kind 0 ≡ ofKind lines kind 0
 in-front lines zero = refl
 in-front lines (suc kind) = refl
 
-past-all : (lines : List ℕ) (kind : ℕ) → length lines < kind → 0 ≡ line lines kind 0
+past-all : (lines : List ℕ) (kind : ℕ) → length lines < kind → 0 ≡ ofKind lines kind 0
 past-all lines kind h = sym (List·getD-eq-default (0 ∷ lines) 0 h) ∙ in-front lines kind
 
 pub highest-power-spec : {M : Type 1} → statement M

@@ -3,7 +3,7 @@ use mathlib.Core.Path.{sym, subst}
 use mathlib.Core.List.{List}
 use native.Mathlib.Nat.{le-refl}
 use lib.ListN.{getD}
-use Rattle.arith.specs.Units.{Unit}
+use Rattle.arith.specs.Units.{IsUnit}
 use Rattle.pauli.specs.Pauli.{Pauli}
 use Rattle.tableau.specs.Tableau.{column}
 use Rattle.synthesis.specs.Reduce.{gathered, firstColumn}
@@ -33,7 +33,7 @@ one-turn-requires c κs =
     let h = s .pre in
     let x0 = c .before .before .before .before .before .each-later in
     let x1 = c .before .before .before .before .before .before .before .before .before .before .before .straighten-from in
-    let unit = subst (λ (u : List Pauli). Unit (s .args .d) (getD (column (s .args .n) u (s .args .q) .v) (s .args .q) 0)) (sym (does-from (does-then (x1 .ensures .0) (x0 .ensures .0)) .tableau)) (h .1 .0 .1) in
+    let unit = subst (λ (u : List Pauli). IsUnit (s .args .d) (getD (column (s .args .n) u (s .args .q) .v) (s .args .q) 0)) (sym (does-from (does-then (x1 .ensures .0) (x0 .ensures .0)) .tableau)) (h .1 .0 .1) in
     (h .0, ((le-refl _, h .1 .0 .0), (unit, (omega (arith, x0 .kept, x1 .kept, x0 .ensures .0 .within, x1 .ensures .0 .within), x0 .ensures .1))))
 
 each-later-requires-2 : tie.Need-each-later-requires-2

@@ -7,7 +7,7 @@ use native.Mathlib.Nat.{mod-lt}
 use lib.ListN.{getD}
 use lib.Dec.{ltb}
 use Rattle.arith.proofs.Cases.{ltb-case}
-use Rattle.arith.specs.Units.{Unit, leastMultiplier, inverseOf}
+use Rattle.arith.specs.Units.{IsUnit, leastMultiplier, inverseOf}
 use Rattle.arith.proofs.Units.{least-below, inverse-below, inverse-unit}
 use Rattle.pauli.specs.Pauli.{Pauli}
 use Rattle.gates.specs.Row.{F}
@@ -65,7 +65,7 @@ returns-4 c =
 returns-5 : tie.Need-returns-5
 returns-5 c =
     let a = c .before .before .before .before .before .args in
-    let unit : Unit (a .d) (c .before .before .v-at4 .result .0) = rw (c .before .before .v-at4 .ensures (a .n) (omega arith) (omega arith)) (rw (c .before .before .before .enum-told2 .given .1) at (c .before .before .before .before .before .pre .1 .1)) in
+    let unit : IsUnit (a .d) (c .before .before .v-at4 .result .0) = rw (c .before .before .v-at4 .ensures (a .n) (omega arith) (omega arith)) (rw (c .before .before .before .enum-told2 .given .1) at (c .before .before .before .before .before .pre .1 .1)) in
     rw (c .before .before .before .enum-told2 .given .1) (says-power (putM (a .d) (a .q)) (λ (u : List Pauli). inverseOf (a .d) (getD (column (a .n) u (a .q) .v) (a .q) 0)) (c .before .inverse .ensures ∙ ap (inverseOf (a .d)) (c .before .before .v-at4 .ensures (a .n) (omega arith) (omega arith))) (c .by-m .ensures (a .d) (a .n) _ (omega arith) (rw (c .before .inverse .ensures) (inverse-below (a .d) _ (omega arith) unit)) (rw (c .before .inverse .ensures) (inverse-unit (a .d) _ (omega arith) unit)) (omega arith)))
 
 returns-6 : tie.Need-returns-6
