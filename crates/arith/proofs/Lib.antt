@@ -11,5 +11,6 @@ pub mod RingExamples
 pub mod Units
 pub mod Quotient
 pub mod Refusals
+pub mod Passes
 pub mod Bytes
 pub mod Examples

@@ -9,6 +9,7 @@ ghost use Rattle.arith.specs.Calls.{multiplierRefusal};
 ghost use Rattle.pauli.specs.Calls.{productRefusal, productBytes, powerRefusal, powerBytes, commutationRefusal, commutationNumber};
 ghost use Rattle.gates.specs.Calls.{runRefusal, runBytes, ticksRefusal, ticksOf};
 ghost use Rattle.synthesis.specs.Demand3.{Synthesised};
+ghost use Rattle.synthesis.specs.Chosen.{Chosen};
 ghost use Rattle.tableau.specs.Calls.{tableauRefusal, tableauAnswer, imageRefusal, imageAnswer, composeRefusal, composeAnswer, inverseRefusal, inverseAnswer};
 
 // The least multiplier of a and b.
@@ -63,6 +64,7 @@ pub extern "C" fn clifford_tableau(d: u16, n: u16, list: &[u8], out: &mut [u8]) 
 #[no_mangle]
 pub extern "C" fn clifford_synthesis(d: u16, n: u16, tableau: &[u8], out: &mut [u8]) -> Answer
     ensures { λ r. ⌜ Synthesised d n (now (tableau .entry)) (now (out .entry)) (now (out .exit)) r ⌝ }
+    ensures { λ r. ⌜ Chosen d n (now (tableau .entry)) (now (out .exit)) r ⌝ }
 {
     synthesis::calls::synthesis(d, n, tableau, out)
 }

@@ -1,4 +1,4 @@
--- Refusal 5: the larger of two numbers, a loop over v and w, and what holds once 5 is past. Assumes nothing.
+-- Refusal 5: the larger of two numbers, a loop over v and w, what holds once 5 is past, and what passes it. Assumes nothing.
 use mathlib.Core.Path.{_≡_, refl, sym, ap, ap₂, _∙_}
 use mathlib.Core.List.{List, [], _∷_}
 use Prim.Native.Nat.{ℕ, zero, suc, _+_, _*_, _≤_, _<_}
@@ -9,6 +9,7 @@ use Rattle.arith.specs.Bytes.{tab}
 use Rattle.arith.specs.Refusals.{orElse, unlessHolds, rangeOf}
 use Rattle.arith.proofs.Cases.{by-less, ltb-case}
 use Rattle.arith.proofs.Refusals.{orElse-none, orElse-assoc, range-good as number-good}
+use Rattle.arith.proofs.Passes.{range-passes, both-pass}
 use Rattle.pauli.specs.Pauli.{Pauli, Below, none, more, InRange}
 use Rattle.pauli.specs.Range.{boundsOf, pauliRangeOf}
 
@@ -81,3 +82,13 @@ range-good {d} p ev ew e =
     let x = orElse-none (rangeOf (2 * d) (p .phase)) (orElse (boundsOf d (p .v)) (boundsOf d (p .w))) e in
     let y = orElse-none (boundsOf d (p .v)) (boundsOf d (p .w)) (x .1) in
     record { phase-below = number-good (x .0); v-length = ev; w-length = ew; v-below = bounds-good d (p .v) (y .0); w-below = bounds-good d (p .w) (y .1) }
+
+-- ---- what passes 5
+pub bounds-pass : {d : ℕ} {xs : List ℕ} → Below d xs → boundsOf d xs ≡ 0
+unfolding boundsOf
+bounds-pass none = refl
+bounds-pass (more l b) = both-pass (range-passes l) (bounds-pass b)
+
+pub pauli-passes : {d n : ℕ} {p : Pauli} → InRange d n p → pauliRangeOf d p ≡ 0
+unfolding pauliRangeOf
+pauli-passes r = both-pass (range-passes (r .phase-below)) (both-pass (bounds-pass (r .v-below)) (bounds-pass (r .w-below)))

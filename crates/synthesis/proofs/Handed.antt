@@ -9,8 +9,8 @@ use lib.ListN.{length, take, drop, length-map}
 use lib.Seq.{take-at, drop-at}
 use Rattle.arith.specs.Bytes.{front}
 use Rattle.arith.proofs.Bytes.{write-front}
-use Rattle.arith.specs.Refusals.{orElse, unless, givenOf, sizeOf, roomOf}
-use Rattle.arith.proofs.Refusals.{Stops, Given, orElse-none, orElse-skip, orElse-assoc, given-good, size-good, room-good}
+use Rattle.arith.specs.Refusals.{orElse, unless, roomOf}
+use Rattle.arith.proofs.Refusals.{Stops, orElse-none, orElse-skip, orElse-assoc}
 use Rattle.arith.specs.Refusals.{numberOf}
 use Rattle.arith.specs.declared.checks.Check.{Check}
 use Rattle.arith.specs.declared.checks.Answer.{Answer}
@@ -19,14 +19,14 @@ use Rattle.gates.specs.Row.{Row, run, undo}
 use Rattle.gates.specs.Written.{WrittenRow, written, meant, encodeRows, listRows, rowsOf, allLegalRows}
 use Rattle.gates.proofs.Written.{list-encoded, rows-meant, all-legal-written, rows-bytes}
 use Rattle.tableau.specs.Tableau.{WellFormed, Sound, Pairing, Even}
-use Rattle.tableau.specs.Bytes.{tableauBytes, decodeTableau}
+use Rattle.tableau.specs.Bytes.{decodeTableau}
 use Rattle.tableau.specs.Parts.{sizedOf, testsOf}
 use Rattle.tableau.specs.Soundness.{soundnessOf}
-use Rattle.tableau.proofs.Bytes.{decode-formed}
 use Rattle.tableau.proofs.Tests.{soundness-says, sound-good}
 use Rattle.synthesis.specs.Reduce.{State, start, reduce, synthesised}
 use Rattle.synthesis.specs.Progress.{undoRows, Holds}
-use Rattle.synthesis.specs.Demand3.{Realises, Realisable, malformedOf, synthesisRefusal, handed, HandsBack, Synthesised}
+use Rattle.synthesis.specs.Demand3.{Realises, Realisable, malformedOf, synthesisRefusal, handed, HandsBack, WellGiven, Synthesised}
+use Rattle.synthesis.proofs.Premises.{malformed-exactly, formed-given}
 use Rattle.synthesis.proofs.Progress.{undo-length}
 use Rattle.synthesis.proofs.Demand3.{sound-realised, accepted-realisable, refused-unrealisable}
 
@@ -35,26 +35,13 @@ pub square-small : (n : ℕ) → n ≤ 16 → n * n ≤ 256
 square-small n h = mul-le-mul h h
 
 -- ---- what holds once nothing is refused
-pub record WellGiven (d n : ℕ) (bytes : List ℕ) (room : ℕ) : Type 0 where
-  pub given : Given d n
-  pub sized : length bytes ≡ tableauBytes n
-  pub roomy : 40 * (n * n) + 48 * n ≤ room
-  pub formed : WellFormed d n (decodeTableau n bytes)
-
 module _ (d n : ℕ) (bytes : List ℕ) (room : ℕ) where
   -- what the lengths decide, then what the numbers decide
   pub refusal-parts : synthesisRefusal d n bytes room ≡ orElse (orElse (sizedOf d n (length bytes)) (roomOf (40 * (n * n) + 48 * n) room)) (testsOf d n (decodeTableau n bytes))
   refusal-parts = simp orElse-assoc
 
-  well-given : malformedOf d n bytes room ≡ 0 → WellGiven d n bytes room
-  well-given e =
-      let g = orElse-none (givenOf d n) _ e in
-      let s = orElse-none (sizeOf (tableauBytes n) (length bytes)) _ (g .1) in
-      let r = orElse-none (roomOf (40 * (n * n) + 48 * n) room) _ (s .1) in
-      record { given = given-good (g .0); sized = size-good (s .0); roomy = room-good (r .0); formed = decode-formed bytes (r .1) }
-
   pub accepted-given : synthesisRefusal d n bytes room ≡ 0 → WellGiven d n bytes room × Sound d n (decodeTableau n bytes)
-  accepted-given e = let z = orElse-none (malformedOf d n bytes room) _ e in (well-given (z .0), sound-good (z .1))
+  accepted-given e = let z = orElse-none (malformedOf d n bytes room) _ e in (malformed-exactly d n bytes room .0 (z .0), sound-good (z .1))
 
 -- ---- the output's bytes: the undo rows in their order, reversed
 undo-reversed : (d : ℕ) (rows : List Row) → reverse (undoRows d rows) ≡ map written (map (undo d) rows)
@@ -107,10 +94,10 @@ module _ {d n : ℕ} {bytes old new : List ℕ} {a : Answer} (e : a .number ≡ 
   promise : (a .number ≡ 0 → HandsBack d n (decodeTableau n bytes) (a .value) old new) → (a .number ≢ 0 → (a .value ≡ 0) × (new ≡ old)) → Synthesised d n bytes old new a
   promise f g = record {
     number = e;
-    unrealisable = λ z. subst (λ (x : ℕ). ((x ≡ 7) ⊎ (x ≡ 8)) ↔ ¬ Realisable d n t) (sym (at z)) (refused-unrealisable (one z) (well z .formed));
+    unrealisable = λ z. subst (λ (x : ℕ). ((x ≡ 7) ⊎ (x ≡ 8)) ↔ ¬ Realisable d n t) (sym (at z)) (refused-unrealisable (one z) (formed-given (well z)));
     seven = λ z. subst (λ (x : ℕ). (x ≡ 7) ↔ ¬ Pairing d n t) (sym (at z)) (soundness-says .seven);
     eight = λ z. subst (λ (x : ℕ). (x ≡ 8) ↔ (Pairing d n t × ¬ Even d n t)) (sym (at z)) (soundness-says .eight);
-    accepted = λ z. subst (λ (x : ℕ). (x ≡ 0) ↔ Realisable d n t) (sym (at z)) (accepted-realisable (one z) (well z .formed));
+    accepted = λ z. subst (λ (x : ℕ). (x ≡ 0) ↔ Realisable d n t) (sym (at z)) (accepted-realisable (one z) (formed-given (well z)));
     list = f;
     refused = g;
   }
@@ -119,10 +106,10 @@ module _ {d n : ℕ} {bytes old new : List ℕ} {a : Answer} (e : a .number ≡ 
       t = decodeTableau n bytes
 
       well : malformedOf d n bytes (length old) ≡ 0 → WellGiven d n bytes (length old)
-      well = well-given d n bytes (length old)
+      well = malformed-exactly d n bytes (length old) .0
 
       one : malformedOf d n bytes (length old) ≡ 0 → 1 < d
-      one z = well z .given .dimension .d-low
+      one z = well z .dimension .d-low
 
       at : malformedOf d n bytes (length old) ≡ 0 → a .number ≡ soundnessOf d n t
       at z = e ∙ orElse-skip (soundnessOf d n t) z
@@ -132,13 +119,13 @@ module _ {d n : ℕ} {bytes old new : List ℕ} {a : Answer} (e : a .number ≡ 
       → Synthesised d n bytes old new a
   promise-accepted z v f =
       let w = accepted-given d n bytes (length old) (sym e ∙ z) in
-      promise (λ q. hands-back (w .0 .given .dimension .d-low) (w .0 .formed) (w .1) v f) (λ ne. absurd (ne z))
+      promise (λ q. hands-back (w .0 .dimension .d-low) (formed-given (w .0)) (w .1) v f) (λ ne. absurd (ne z))
 
--- where it is refused
+-- where it is refused: the number isn't 0
+pub stops-some : {z : ℕ} {r : Check} → Stops r z → z ≢ 0
+stops-some {z} s e = let o : _≡_ {A = ℕ} 0 1 = s .value 1 ∙ ap (λ (x : ℕ). unless x 1) e in omega arith
+
 pub promise-refused : {d n : ℕ} {bytes old : List ℕ} {a : Answer} {r : Check} → Stops r (synthesisRefusal d n bytes (length old)) → (a .number ≡ numberOf r) × (a .value ≡ 0) → Synthesised d n bytes old old a
 promise-refused {d} {n} {bytes} {old} {a} s e =
     let q : a .number ≡ synthesisRefusal d n bytes (length old) = e .0 ∙ s .number in
-    promise q (λ z. absurd (never (synthesisRefusal d n bytes (length old)) (sym q ∙ z) (s .value 1))) (λ ne. (e .1, refl))
-  where
-    never : (z : ℕ) → z ≡ 0 → 0 ≡ unless z 1 → ⊥
-    never z h k = let o : _≡_ {A = ℕ} 0 1 = k ∙ ap (λ (x : ℕ). unless x 1) h in omega arith
+    promise q (λ z. absurd (stops-some s (sym q ∙ z))) (λ ne. (e .1, refl))

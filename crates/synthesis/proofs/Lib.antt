@@ -2,12 +2,14 @@ pub mod Bench
 pub mod Busy
 pub mod Count
 pub mod CountSecond
+pub mod Premises
 pub mod Demand3
 pub mod Entries
 pub mod Examples
 pub mod Expected
 pub mod FirstColumn
 pub mod Handed
+pub mod Chosen
 pub mod Identity
 pub mod Phases
 pub mod Prime

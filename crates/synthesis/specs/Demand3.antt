@@ -5,12 +5,12 @@ use mathlib.Core.List.{List}
 use mathlib.Core.Logic.{_↔_, _⊎_, _≢_}
 use Prim.Native.Nat.{ℕ, _+_, _*_, _≤_, _<_}
 use lib.ListN.{length, take, drop}
-use Rattle.arith.specs.Refusals.{orElse, givenOf, sizeOf, roomOf}
+use Rattle.arith.specs.Refusals.{orElse, givenOf, sizeOf, roomOf, Dimension, Width}
 use Rattle.arith.specs.declared.checks.Answer.{Answer}
 use Rattle.pauli.specs.Pauli.{Pauli, InRange, unit}
 use Rattle.gates.specs.Row.{Row, AllLegal, run}
 use Rattle.gates.specs.Written.{listRows, rowsOf, allLegalRows}
-use Rattle.tableau.specs.Tableau.{column, image, Pairing, Even}
+use Rattle.tableau.specs.Tableau.{column, image, AllInRange, Pairing, Even}
 use Rattle.tableau.specs.Bytes.{tableauBytes, decodeTableau}
 use Rattle.tableau.specs.Range.{tableauRangeOf}
 use Rattle.tableau.specs.Soundness.{soundnessOf}
@@ -52,7 +52,24 @@ pub record HandsBack (d n : ℕ) (t : List Pauli) (count : ℕ) (old new : List 
   -- the bytes after the list don't change
   pub later : drop (8 * count) new ≡ drop (8 * count) old
 
--- the promise of the call, for every d, every n, every tableau in bytes and every output
+-- ---- demand 3
+-- its premises: d is 2 to 1,024, n is 1 to 16, the tableau has the right length and all its numbers are in range, and the output is long enough for 5n² + 6n rows.
+-- `malformed-exactly` of proofs/Premises: a call isn't malformed exactly when these hold
+pub record WellGiven (d n : ℕ) (bytes : List ℕ) (room : ℕ) : Type 0 where
+  pub dimension : Dimension d
+  pub width : Width n
+  pub sized : length bytes ≡ tableauBytes n
+  pub ranges : AllInRange d n (decodeTableau n bytes)
+  pub roomy : 8 * (5 * (n * n) + 6 * n) ≤ room
+
+-- its conclusion: the tableau is refused as unrealisable exactly when no list of legal rows, of any length, carries every unit Pauli to its column; for every
+-- other tableau a list is handed back, and `HandsBack` says what holds of it.
+-- `demand3` of proofs/Premises: what the call promises (`Synthesised`) and the premises give the conclusion
+pub record Demand3 (d n : ℕ) (t : List Pauli) (old new : List ℕ) (a : Answer) : Type 0 where
+  pub unrealisable : ((a .number ≡ 7) ⊎ (a .number ≡ 8)) ↔ ¬ Realisable d n t
+  pub otherwise : ¬ ((a .number ≡ 7) ⊎ (a .number ≡ 8)) → (a .number ≡ 0) × HandsBack d n t (a .value) old new
+
+-- ---- the promise of the call, for every d, every n, every tableau in bytes and every output
 pub record Synthesised (d n : ℕ) (bytes old new : List ℕ) (a : Answer) : Type 0 where
   -- the number is the first refusal in the order of the table, 0 for none
   pub number : a .number ≡ synthesisRefusal d n bytes (length old)

@@ -1,4 +1,5 @@
 pub mod Demand3
+pub mod Chosen
 pub mod Measures
 pub mod Progress
 pub mod Reduce

@@ -9,10 +9,12 @@ use lib.Seq.{sets, length-sets, split-at, length-take-le}
 use Rattle.arith.specs.Bytes.{tab, bytesOf, front}
 use Rattle.arith.proofs.Bytes.{tab-none, tab-more, tab-length, tab-ext, tab-list, bytes-length, write-more, write-front}
 use Rattle.arith.proofs.Refusals.{orElse-none}
+use Rattle.arith.proofs.Passes.{both-pass}
 use Rattle.pauli.specs.Pauli.{Pauli, InRange, phaseOnly}
 use Rattle.pauli.specs.Bytes.{decodeAt, numbersOf, encode}
 use Rattle.pauli.specs.Range.{pauliRangeOf}
 use Rattle.pauli.proofs.Ranges.{entries-length}
+use Rattle.pauli.proofs.RangeChecks.{pauli-passes}
 use Rattle.pauli.proofs.Encoding.{decode-range, decodeAt-encode}
 use Rattle.tableau.specs.Tableau.{column, AllInRange, none, more, WellFormed}
 use Rattle.tableau.specs.Bytes.{tableauBytes, columnAt, decodeTableau, tableauNumbers, encodeTableau}
@@ -49,6 +51,12 @@ ranges-good {d} {n} f b (suc m) e =
 pub decode-formed : {d n : ℕ} (b : List ℕ) → tableauRangeOf d (decodeTableau n b) ≡ 0 → WellFormed d n (decodeTableau n b)
 unfolding decodeTableau
 decode-formed {n = n} b e = record { columns = decode-length n b; ranges = ranges-good (λ j. j * (1 + 2 * n)) b (2 * n) e }
+
+-- and every tableau in range passes 5
+pub ranges-pass : {d n : ℕ} {t : List Pauli} → AllInRange d n t → tableauRangeOf d t ≡ 0
+unfolding tableauRangeOf
+ranges-pass none = refl
+ranges-pass (more r rs) = both-pass (pauli-passes r) (ranges-pass rs)
 
 -- ---- the numbers of columns
 pub numbers-length : {d n : ℕ} {p : Pauli} → InRange d n p → length (numbersOf p) ≡ 1 + 2 * n

@@ -29,7 +29,7 @@ unfolding neg
 image-list = refl
 
 -- where a formula for the phases of the inverse that takes entries modulo d goes wrong: d = 2, rows A from 2 to 1 and S on 1
-abbrev twisted : List Pauli
+abbrev pub twisted : List Pauli
 twisted = tableauOf 2 2 (A 1 0 1 ∷ S 0 1 ∷ [])
 
 twisted-undone : (compose 2 2 twisted (inverse 2 2 twisted) ≡ units 2) × (compose 2 2 (inverse 2 2 twisted) twisted ≡ units 2)

@@ -5,10 +5,12 @@ pub mod Bytes
 pub mod Columns
 pub mod Compose
 pub mod Examples
+pub mod FormulaNine
 pub mod Image
 pub mod Impossible
 pub mod Inverse
 pub mod Loops
+pub mod Mended
 pub mod Products
 pub mod Run
 pub mod Tests

@@ -58,6 +58,12 @@ says false c p e = record {
   refused = (λ q y. p .1 (y .0), λ f. inl refl);
 }
 
+none-left : (b c : Bool) → ¬ ((orElse (pairingOf b) (parityOf c) ≡ 7) ⊎ (orElse (pairingOf b) (parityOf c) ≡ 8)) → orElse (pairingOf b) (parityOf c) ≡ 0
+unfolding pairingOf parityOf
+none-left true true f = refl
+none-left true false f = absurd (f (inr refl))
+none-left false c f = absurd (f (inl refl))
+
 module _ {d n : ℕ} {t : List Pauli} where
   pub pairing-test : T (pairingHolds d n t) ↔ Pairing d n t
   pairing-test = (
@@ -80,3 +86,7 @@ module _ {d n : ℕ} {t : List Pauli} where
   -- what holds once 7 and 8 are past
   pub sound-good : soundnessOf d n t ≡ 0 → Sound d n t
   sound-good e = let y = soundness-says .accepted .0 e in record { pairing = y .0; parities = y .1 }
+
+-- there is no other number: where it is neither 7 nor 8 it is 0
+pub neither-none : (d n : ℕ) (t : List Pauli) → ¬ ((soundnessOf d n t ≡ 7) ⊎ (soundnessOf d n t ≡ 8)) → soundnessOf d n t ≡ 0
+neither-none d n t = none-left (pairingHolds d n t) (parityHolds d n t)

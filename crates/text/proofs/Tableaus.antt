@@ -185,7 +185,7 @@ module _ (d n : ℕ) (tableau old new : List ℕ) (a : Answer) (s : Synthesised 
   pub list-few : a .number ≡ 0 → a .value ≤ 1376
   list-few z =
       let g = accepted-given d n tableau (length old) (sym (s .number) ∙ z) .0 in
-      omega (arith, s .list z .short, square-small n (g .given .width .n-high), g .given .width .n-high)
+      omega (arith, s .list z .short, square-small n (g .width .n-high), g .width .n-high)
 
   -- the list
   pub tableau-printed : {output : List ℕ} → 11008 ≤ length old → a .number ≡ 0 → output ≡ printFile (listFileOf d n (handed (a .value) new) (a .value)) → TableauConverts d n tableau output
@@ -203,7 +203,7 @@ module _ (d n : ℕ) (tableau old new : List ℕ) (a : Answer) (s : Synthesised 
 
       list : PrintsList d n (decodeTableau n tableau) output
       list =
-          let g = accepted-given d n tableau (length old) (sym (s .number) ∙ z) .0 .given in
+          let g = accepted-given d n tableau (length old) (sym (s .number) ∙ z) .0 in
           let fits = rows-fit d n rows (g .dimension .d-high) (g .width .n-high) (s .list z .legal) in
           let print : output ≡ printFile (listFile d n rows) = p ∙ ap (λ (l : List WrittenRow). printFile (listFile d n l)) same-rows in
           let short : length output ≤ 65536 = omega (arith, ap length print, list-length d n rows (omega (arith, g .dimension)) (omega (arith, g .width)) fits, count, list-few z) in

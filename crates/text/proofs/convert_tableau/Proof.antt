@@ -12,12 +12,12 @@ convert-tableau-spec = tie.close (tie.spec
     (λ c κs. search needs)  -- print-refusal-requires
     (λ c. search needs)  -- same-length
     (λ c. search needs)  -- same-length-2
-    (λ c. let p = c .before .before .print-refusal .ensures in let h = c .before .before .before .before .before .before .before .before .before .before .before .before .before .pre in (printed-room p, tableau-refused _ _ _ _ _ _ (c .before .before .before .before .before .before .before .before .synthesis .ensures) (h .0) (c .before .before .before .before .if1 .taken) (printed p)))  -- returns
+    (λ c. let p = c .before .before .print-refusal .ensures in let h = c .before .before .before .before .before .before .before .before .before .before .before .before .before .pre in (printed-room p, tableau-refused _ _ _ _ _ _ (c .before .before .before .before .before .before .before .before .synthesis .ensures .0) (h .0) (c .before .before .before .before .if1 .taken) (printed p)))  -- returns
     (λ c. search needs)  -- cast-count
     (λ c. search needs)  -- mul-print-list
-    (λ c. let l = list-few _ _ _ _ _ _ (c .before .before .before .before .before .synthesis .ensures) (c .before .if1 .left) in omega (arith, l))  -- slice-reshare-prefix-print-list
-    (λ c. let l = list-few _ _ _ _ _ _ (c .before .before .before .before .before .before .synthesis .ensures) (c .before .before .if1 .left) in front-length _ _ (omega (arith, l)))  -- slice-aggregate-print-list
-    (λ c κs. let l = list-few _ _ _ _ _ _ (c .before .before .before .before .before .before .before .synthesis .ensures) (c .before .before .before .if1 .left) in (front-room _ _ (omega (arith, l)), omega (arith, l)))  -- print-list-requires
+    (λ c. let l = list-few _ _ _ _ _ _ (c .before .before .before .before .before .synthesis .ensures .0) (c .before .if1 .left) in omega (arith, l))  -- slice-reshare-prefix-print-list
+    (λ c. let l = list-few _ _ _ _ _ _ (c .before .before .before .before .before .before .synthesis .ensures .0) (c .before .before .if1 .left) in front-length _ _ (omega (arith, l)))  -- slice-aggregate-print-list
+    (λ c κs. let l = list-few _ _ _ _ _ _ (c .before .before .before .before .before .before .before .synthesis .ensures .0) (c .before .before .before .if1 .left) in (front-room _ _ (omega (arith, l)), omega (arith, l)))  -- print-list-requires
     (λ c. search needs)  -- same-length-3
     (λ c. search needs)  -- same-length-4
-    (λ c. let p = c .before .before .print-list .ensures in let h = c .before .before .before .before .before .before .before .before .before .before .before .before .before .before .before .pre in (printed-room p, tableau-printed _ _ _ _ _ _ (c .before .before .before .before .before .before .before .before .before .before .synthesis .ensures) (h .0) (c .before .before .before .before .before .before .if1 .left) (printed p))))  -- returns-2
+    (λ c. let p = c .before .before .print-list .ensures in let h = c .before .before .before .before .before .before .before .before .before .before .before .before .before .before .before .pre in (printed-room p, tableau-printed _ _ _ _ _ _ (c .before .before .before .before .before .before .before .before .before .before .synthesis .ensures .0) (h .0) (c .before .before .before .before .before .before .if1 .left) (printed p))))  -- returns-2

@@ -14,7 +14,9 @@ use Rattle.tableau.proofs.Views.{fresh-shaped}
 use Rattle.synthesis.specs.Reduce.{synthesised}
 use Rattle.synthesis.specs.Demand3.{synthesisRefusal}
 use Rattle.synthesis.proofs.Theorem.{synthesis}
+use Rattle.synthesis.proofs.Premises.{formed-given}
 use Rattle.synthesis.proofs.Handed.{square-small, refusal-parts, accepted-given, promise-accepted, promise-refused}
+use Rattle.synthesis.proofs.Chosen.{chosen-accepted, chosen-refused}
 use native.Mathlib.Omega.{arith}
 use borrow.Author.Needs.{needs}
 use Rattle.synthesis.proofs.calls.synthesis.Statement.{statement}
@@ -35,7 +37,8 @@ passed c =
 returns : tie.Need-returns
 returns c =
     let a = c .before .before .before .before .before .before .args in
-    promise-refused (stop-first _ _ (refusal-parts (a .d) (a .n) (a .tableau .now) (length (a .out .now))) (c .before .before .before .synthesis-check .ensures) (c .before .enum-told2 .given .1)) (c .refused .ensures)
+    let s = stop-first _ _ (refusal-parts (a .d) (a .n) (a .tableau .now) (length (a .out .now))) (c .before .before .before .synthesis-check .ensures) (c .before .enum-told2 .given .1) in
+    (promise-refused s (c .refused .ensures), chosen-refused s (c .refused .ensures .0))
 
 read-into-requires : tie.Need-read-into-requires
 read-into-requires c κs =
@@ -50,14 +53,16 @@ tests-requires c κs =
 returns-2 : tie.Need-returns-2
 returns-2 c =
     let a = c .before .before .before .before .before .before .before .before .before .before .before .before .args in
-    promise-refused (stop-second _ _ (refusal-parts (a .d) (a .n) (a .tableau .now) (length (a .out .now))) (good _ (c .before .before .before .before .before .before .before .before .before .synthesis-check .ensures) (c .before .before .before .before .before .before .before .enum-told .given .1)) (found (c .before .before .before)) (c .before .enum-told4 .given .1)) (c .refused2 .ensures)
+    let past = good _ (c .before .before .before .before .before .before .before .before .before .synthesis-check .ensures) (c .before .before .before .before .before .before .before .enum-told .given .1) in
+    let s = stop-second _ _ (refusal-parts (a .d) (a .n) (a .tableau .now) (length (a .out .now))) past (found (c .before .before .before)) (c .before .enum-told4 .given .1) in
+    (promise-refused s (c .refused2 .ensures), chosen-refused s (c .refused2 .ensures .0))
 
 write-list-requires : tie.Need-write-list-requires
 write-list-requires c κs =
     let a = c .before .before .before .before .before .before .before .before .before .before .before .before .args in
     let w = accepted-given (a .d) (a .n) (a .tableau .now) (length (a .out .now)) (passed (c .before)) in
     let e = c .before .before .before .before .before .read-into .ensures .0 in
-    ((w .0 .given .dimension, w .0 .given .width .n-high), ((rw e (w .0 .formed), rw e (w .1)), omega (arith, w .0 .roomy)))
+    ((w .0 .dimension, w .0 .width .n-high), ((rw e (formed-given (w .0)), rw e (w .1)), omega (arith, w .0 .roomy)))
 
 -- the count is that of the list for the tableau that the bytes hold
 counted : (c : tie.After-write-list) → let a = c .before .before .before .before .before .before .before .before .before .before .before .before .before .args in c .write-list .result ≡ length (synthesised (a .d) (a .n) (decodeTableau (a .n) (a .tableau .now)))
@@ -69,13 +74,14 @@ cast-t19 : tie.Need-cast-t19
 cast-t19 c =
     let a = c .before .before .before .before .before .before .before .before .before .before .before .before .before .before .before .args in
     let w = accepted-given (a .d) (a .n) (a .tableau .now) (length (a .out .now)) (passed (c .before .before .before .before)) in
-    let g = w .0 .given .width .n-high in
-    omega (arith, counted (c .before .before), synthesis (w .0 .given .dimension .d-low) (w .0 .formed) (w .1) .short, square-small (a .n) g, g)
+    let g = w .0 .width .n-high in
+    omega (arith, counted (c .before .before), synthesis (w .0 .dimension .d-low) (formed-given (w .0)) (w .1) .short, square-small (a .n) g, g)
 
 returns-3 : tie.Need-returns-3
 returns-3 c =
     let a = c .before .before .before .before .before .before .before .before .before .before .before .before .before .before .before .args in
-    promise-accepted (sym (passed (c .before .before .before .before))) refl (counted (c .before .before)) (c .before .before .write-list .ensures .1 ∙ ap (λ (t : List Pauli). front (encodeRows (map written (synthesised (a .d) (a .n) t))) (a .out .now)) (c .before .before .before .before .before .before .before .before .read-into .ensures .0))
+    let w = c .before .before .write-list .ensures .1 ∙ ap (λ (t : List Pauli). front (encodeRows (map written (synthesised (a .d) (a .n) t))) (a .out .now)) (c .before .before .before .before .before .before .before .before .read-into .ensures .0) in
+    (promise-accepted (sym (passed (c .before .before .before .before))) refl (counted (c .before .before)) w, chosen-accepted (a .out .now) (counted (c .before .before)) w)
 
 pub synthesis-spec : {M : Type 1} → statement M
 synthesis-spec = tie.close (tie.spec
