@@ -14,6 +14,7 @@ VERSION = 1.1.0
 all: lib program
 
 # The gate's log is kept, so that its last line can be printed last. The hosts run two at a time, once all is built; what each prints stays together.
+# Proving takes minutes: tests/proving prints a line for each crate, as it is proved, on standard error.
 test: gate
 	@$(MAKE) --no-print-directory lib program
 	@$(MAKE) --no-print-directory --jobs=2 --output-sync hosts
@@ -22,22 +23,20 @@ test: gate
 gate:
 	@sh tests/gate
 
-hosts: reference compare ctest pyexample texttest
+hosts: reference compare ctest stack pyexample texttest
 
 lib: build/libclifford.a
 
 SOURCES = crates.txt $(shell find crates -name '*.rt' -o -name '*.antt')
 
 build/libclifford.a: $(SOURCES)
-	@mkdir -p build
-	rt staticlib clifford > build/lib.log 2>&1 || { tail -n 40 build/lib.log; exit 1; }
+	@tests/proving build/lib.log rt staticlib clifford
 	cp target/staticlib/libclifford.a $@
 
 program: build/convert
 
 build/convert: $(SOURCES)
-	@mkdir -p build
-	rt check convert > build/convert.log 2>&1 || { tail -n 40 build/convert.log; exit 1; }
+	@tests/proving build/convert.log rt check convert
 	cp target/bin/convert $@
 
 include host.mk

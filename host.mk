@@ -6,6 +6,7 @@
 #   make reference   build the reference and run its own tests
 #   make compare     the library against the reference; CALLS= and SEED=
 #   make ctest       the C hosts: the example, and the guard bytes under valgrind
+#   make stack       how much stack each call uses, against the header's figure
 #   make pyexample   the example over ctypes, against what the C example prints
 #   make texttest    the text program; TEXT_PROGRAM=, RUNS= and SEED=
 #   make bench       the benchmark table; BENCH_MS=
@@ -23,7 +24,7 @@ HOST_CARGO = $(CARGO) build --quiet --release --offline --target-dir build/cargo
 HOST_RUST = CLIFFORD_LIB_DIR=$(CURDIR)/build $(HOST_CARGO) --manifest-path tests/host/Cargo.toml
 REFERENCE = --manifest-path tests/reference/Cargo.toml
 
-.PHONY: reference textref compare ctest pyexample texttest bench
+.PHONY: reference textref compare ctest stack pyexample texttest bench
 
 reference: textref
 	$(CARGO) test --quiet --offline --target-dir build/cargo $(REFERENCE) --lib
@@ -48,6 +49,12 @@ build/guard: tests/host/guard.c include/clifford.h build/libclifford.a
 ctest: build/example build/guard
 	build/example
 	$(if $(VALGRIND),$(VALGRIND) --quiet --error-exitcode=1 --leak-check=full )build/guard
+
+build/stack: tests/host/stack.c include/clifford.h build/libclifford.a
+	$(CC) $(HOST_CFLAGS) $< build/libclifford.a $(CLIFFORD_LIBS) -o $@
+
+stack: build/stack
+	build/stack
 
 build/libclifford.so: build/libclifford.a
 	$(CC) -shared -Wl,--whole-archive $< -Wl,--no-whole-archive $(CLIFFORD_LIBS) -o $@

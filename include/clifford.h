@@ -4,7 +4,8 @@
  *
  * No call allocates or keeps state; of the C library it needs memcpy and
  * memset alone. A call may run on any number of threads at once. Every call
- * ends on every input and uses less than 32 KiB of stack.
+ * ends on every input and uses less than 32 KiB of stack (measured by the
+ * tests, not proved).
  *
  * NUMBERS AND LAYOUTS
  *
@@ -45,13 +46,13 @@
  * LENT BYTES
  *
  * A pointer and the length after it lend that many bytes for the call. Inputs
- * are only read, outputs only written. Inputs may share bytes with each other.
- * An output shares no byte with anything else lent to the same call: that is
- * the caller's duty and is not tested. A length of 0 may come with a null
- * pointer.
+ * are only read. Outputs are written, and synthesis also reads back rows that
+ * it has written there. Inputs may share bytes with each other. An output
+ * shares no byte with anything else lent to the same call: that is the
+ * caller's duty and is not tested. A length of 0 may come with a null pointer.
  *
  * An output may be longer than the answer; the bytes after the answer don't
- * change. What an output held before makes no difference.
+ * change. What an output held before makes no difference to the answer.
  *
  * ANSWERS
  *
@@ -100,8 +101,8 @@ enum {
     CLIFFORD_PAIRING = 7,
 
     /* Pairing holds, but the sum of a column is odd: no list does this. Use
-       another tableau; one with 1 added, modulo 2d, to the phase of each such
-       column is sound. */
+       another tableau; this one with 1 added, modulo 2d, to the phase of each
+       such column is sound. */
     CLIFFORD_PARITY = 8,
 
     /* The text program alone: a line breaks the layout. No call gives it. */

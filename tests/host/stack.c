@@ -1,0 +1,156 @@
+/*
+ * How much stack each call uses: it runs on a stack of its own that was
+ * painted before, and the bytes that it changed are counted from the far end.
+ * The header promises less than 32 KiB; more fails the test.
+ */
+#define _XOPEN_SOURCE 700
+
+#include "clifford.h"
+
+#include <stdio.h>
+#include <string.h>
+#include <ucontext.h>
+
+enum { ROWS = 400, QUDITS = 16, STACK = 1 << 18, PROMISED = 1 << 15 };
+
+static uint16_t dimension;
+static uint8_t list[ROWS * 8];
+static uint8_t first[CLIFFORD_TABLEAU_BYTES(QUDITS)], second[CLIFFORD_TABLEAU_BYTES(QUDITS)];
+static uint8_t pauli[CLIFFORD_PAULI_BYTES(QUDITS)];
+static uint8_t out[CLIFFORD_SYNTHESIS_BYTES(QUDITS)];
+static uint16_t number;
+
+static void least_multiplier(void)
+{
+    number = clifford_least_multiplier(dimension, dimension / 2, 1).number;
+}
+
+static void product(void)
+{
+    number = clifford_product(dimension, QUDITS, pauli, sizeof pauli, pauli, sizeof pauli, out, sizeof out);
+}
+
+static void power(void)
+{
+    number = clifford_power(dimension, QUDITS, pauli, sizeof pauli, 65535, out, sizeof out);
+}
+
+static void commutation(void)
+{
+    number = clifford_commutation(dimension, QUDITS, pauli, sizeof pauli, pauli, sizeof pauli).number;
+}
+
+static void run(void)
+{
+    number = clifford_run(dimension, QUDITS, list, sizeof list, pauli, sizeof pauli, out, sizeof out);
+}
+
+static void tableau(void)
+{
+    number = clifford_tableau(dimension, QUDITS, list, sizeof list, out, sizeof out);
+}
+
+static void synthesis(void)
+{
+    number = clifford_synthesis(dimension, QUDITS, first, sizeof first, out, sizeof out).number;
+}
+
+static void image(void)
+{
+    number = clifford_image(dimension, QUDITS, first, sizeof first, pauli, sizeof pauli, out, sizeof out);
+}
+
+static void compose(void)
+{
+    number = clifford_compose(dimension, QUDITS, first, sizeof first, second, sizeof second, out, sizeof out);
+}
+
+static void inverse(void)
+{
+    number = clifford_inverse(dimension, QUDITS, first, sizeof first, out, sizeof out);
+}
+
+static void ticks(void)
+{
+    number = clifford_ticks(dimension, QUDITS, list, sizeof list).number;
+}
+
+static const struct {
+    const char *name;
+    void (*call)(void);
+} calls[] = {
+    {"least_multiplier", least_multiplier}, {"product", product}, {"power", power},
+    {"commutation", commutation}, {"run", run}, {"tableau", tableau}, {"synthesis", synthesis},
+    {"image", image}, {"compose", compose}, {"inverse", inverse}, {"ticks", ticks},
+};
+
+static unsigned long drawn = 1;
+
+static unsigned below(unsigned bound)
+{
+    drawn = drawn * 6364136223846793005ul + 1442695040888963407ul;
+    return (unsigned)(drawn >> 33) % bound;
+}
+
+static void put(uint8_t *bytes, size_t k, unsigned x)
+{
+    bytes[2 * k] = (uint8_t)x;
+    bytes[2 * k + 1] = (uint8_t)(x >> 8);
+}
+
+/* Rows of every kind on every qudit; M has the power d - 1, which is a unit. */
+static void draw_list(void)
+{
+    for (size_t r = 0; r < ROWS; r++) {
+        unsigned kind = 1 + below(6), i = below(QUDITS), power = dimension - 1;
+        put(list, 4 * r, kind);
+        put(list, 4 * r + 1, i + 1);
+        put(list, 4 * r + 2, kind == 3 ? (i + 1 + below(QUDITS - 1)) % QUDITS + 1 : 0);
+        put(list, 4 * r + 3, kind == 1 ? 1 + below(3) : kind == 4 ? power : 1 + below(power));
+    }
+}
+
+static size_t used_by(void (*call)(void))
+{
+    static uint8_t stack[STACK];
+    static ucontext_t here, there;
+    size_t untouched = 0;
+    memset(stack, 0xa5, sizeof stack);
+    getcontext(&there);
+    there.uc_stack.ss_sp = stack;
+    there.uc_stack.ss_size = sizeof stack;
+    there.uc_link = &here;
+    makecontext(&there, call, 0);
+    swapcontext(&here, &there);
+    while (untouched < sizeof stack && stack[untouched] == 0xa5)
+        untouched++;
+    return sizeof stack - untouched;
+}
+
+int main(void)
+{
+    static const uint16_t dimensions[] = {2, 3, 6, 997, 1024};
+    size_t most = 0;
+    int wrong = 0;
+    for (size_t k = 0; k < sizeof dimensions / sizeof *dimensions; k++) {
+        dimension = dimensions[k];
+        draw_list();
+        tableau();
+        memcpy(second, out, sizeof second);
+        draw_list();
+        tableau();
+        memcpy(first, out, sizeof first);
+        for (size_t i = 0; i < sizeof pauli / 2; i++)
+            put(pauli, i, below(dimension));
+        for (size_t i = 0; i < sizeof calls / sizeof *calls; i++) {
+            size_t used = used_by(calls[i].call);
+            most = used > most ? used : most;
+            if (number != CLIFFORD_OK || used >= PROMISED) {
+                printf("wrong: %s, d = %u: number %u, %zu bytes of stack\n", calls[i].name, (unsigned)dimension, (unsigned)number, used);
+                wrong++;
+            }
+        }
+    }
+    printf("stack: %zu bytes at most, less than %d are promised\n", most, PROMISED);
+    return wrong != 0;
+}
