@@ -27,22 +27,6 @@ unfolding listNumbers
 numbers-append [] us = refl
 numbers-append (w ∷ ws) us = ap (λ (l : List ℕ). rowNumbers w ++ l) (numbers-append ws us) ∙ sym (append-assoc (rowNumbers w) (listNumbers ws) (listNumbers us))
 
--- the four numbers of a row, written one after the other
-pub write-four : (out one two three four : List ℕ) (r a b x y : ℕ) → one ≡ sets out (2 * (4 * r)) (bytesOf (a ∷ [])) → two ≡ sets one (2 * (4 * r + 1)) (bytesOf (b ∷ []))
-    → three ≡ sets two (2 * (4 * r + 2)) (bytesOf (x ∷ [])) → four ≡ sets three (2 * (4 * r + 3)) (bytesOf (y ∷ [])) → four ≡ sets out (8 * r) (encodeRows (record { kind = a; first = b; second = x; power = y } ∷ []))
-unfolding listNumbers
-write-four out one two three four r a b x y e f g h =
-    let p : 2 * (4 * r) ≡ 8 * r = omega arith in
-    let after = write-more out (4 * r) in
-    h
-    ∙ ap (λ (l : List ℕ). sets l (2 * (4 * r + 3)) (bytesOf (y ∷ []))) (g
-    ∙ ap (λ (l : List ℕ). sets l (2 * (4 * r + 2)) (bytesOf (x ∷ []))) (f
-    ∙ ap (λ (l : List ℕ). sets l (2 * (4 * r + 1)) (bytesOf (b ∷ []))) e
-    ∙ after (4 * r + 1) (a ∷ []) (b ∷ []) (omega arith))
-    ∙ after (4 * r + 2) (a ∷ b ∷ []) (x ∷ []) (omega arith))
-    ∙ after (4 * r + 3) (a ∷ b ∷ x ∷ []) (y ∷ []) (omega arith)
-    ∙ ap (λ (k : ℕ). sets out k (bytesOf (a ∷ b ∷ x ∷ y ∷ []))) p
-
 -- a row written behind rows
 write-row : (old : List ℕ) (first count : ℕ) (ws : List WrittenRow) (w : WrittenRow) → count ≡ first + length ws
     → sets (sets old (8 * first) (encodeRows ws)) (8 * count) (encodeRows (w ∷ [])) ≡ sets old (8 * first) (encodeRows (ws ++ (w ∷ [])))

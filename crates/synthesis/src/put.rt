@@ -21,10 +21,10 @@ pub fn write_row(row: Row, out: &mut [u8], r: usize)
     requires { ⌜ 8 * (r + 1) ≤ length (now out) ⌝ }
     ensures { λ _. ⌜ now (out .exit) ≡ sets (now (out .entry)) (8 * r) (encodeRows (viewRow row ∷ [])) ⌝ }
 {
-    arith::numbers::put(out, 4 * r, row.kind);
-    arith::numbers::put(out, 4 * r + 1, row.first);
-    arith::numbers::put(out, 4 * r + 2, row.second);
-    arith::numbers::put(out, 4 * r + 3, row.power);
+    let numbers = [row.kind, row.first, row.second, row.power];
+    for i in 0..4 {
+        arith::numbers::put(out, 4 * r + i, numbers[i]);
+    }
 }
 
 // One turn: the row that it puts behind every column next, if there is one; its undo row is written behind those written.
