@@ -55,9 +55,9 @@ pub fn run_list(list: &[u8], p: Pauli, d: u16, n: usize) -> Pauli
     requires { ⌜ allLegalRows d n (listRows (now list)) ≡ true ⌝ }
     ensures { λ q. ⌜ view n q ≡ run d (rowsOf (now (list .entry))) (view n p) ⌝ }
 {
-    let rows = list.len() / 8;
+    let count = list.len() / 8;
     let mut q = p;
-    for r in 0..rows {
+    for r in 0..count {
         q = run_row(list, r, q, d, n);
     }
     q
