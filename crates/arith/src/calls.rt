@@ -4,7 +4,7 @@ use crate::checks::Check;
 use crate::residue::Residue;
 ghost use mathlib.Core.Path.{_≡_};
 ghost use Rattle.arith.specs.Units.{leastMultiplier};
-ghost use Rattle.arith.specs.Refusals.{checked, numberOf};
+ghost use Rattle.arith.specs.Refusals.{numberOf};
 ghost use Rattle.arith.specs.Answers.{Answered};
 ghost use Rattle.arith.specs.Calls.{multiplierRefusal};
 
@@ -20,7 +20,7 @@ pub fn refused(found: Check) -> Answer
 
 // 1, then 5 for a and for b.
 fn multiplier_check(d: u16, a: u16, b: u16) -> Check
-    ensures { λ r. ⌜ r ≡ checked (multiplierRefusal d a b) ⌝ }
+    ensures { λ r. ⌜ numberOf r ≡ multiplierRefusal d a b ⌝ }
 {
     let of_d = crate::checks::dimension(d);
     let Check::Good = of_d else {

@@ -4,13 +4,13 @@ use arith::checks::Check;
 use pauli::Pauli;
 ghost use mathlib.Core.Path.{_≡_};
 ghost use lib.ListN.{length};
-ghost use Rattle.arith.specs.Refusals.{checked};
+ghost use Rattle.arith.specs.Refusals.{numberOf};
 ghost use Rattle.arith.specs.Answers.{Answered, Written};
 ghost use Rattle.gates.specs.Calls.{runRefusal, runBytes, ticksRefusal, ticksOf};
 
 // 1, 2, then 3 of the list and of the Pauli, 4 of an output of so many bytes, 5 of the Pauli, 6 of the list.
 fn run_check(d: u16, n: u16, list: &[u8], p: &[u8], room: usize) -> Check
-    ensures { λ r. ⌜ r ≡ checked (runRefusal d n (now (list .entry)) (now (p .entry)) room) ⌝ }
+    ensures { λ r. ⌜ numberOf r ≡ runRefusal d n (now (list .entry)) (now (p .entry)) room ⌝ }
 {
     let of_given = arith::checks::given(d, n);
     let Check::Good = of_given else {
@@ -48,7 +48,7 @@ pub fn run(d: u16, n: u16, list: &[u8], p: &[u8], out: &mut [u8]) -> u16
 
 // 1, 2, then 3 and 6 of the list.
 fn ticks_check(d: u16, n: u16, list: &[u8]) -> Check
-    ensures { λ r. ⌜ r ≡ checked (ticksRefusal d n (now (list .entry))) ⌝ }
+    ensures { λ r. ⌜ numberOf r ≡ ticksRefusal d n (now (list .entry)) ⌝ }
 {
     let of_given = arith::checks::given(d, n);
     let Check::Good = of_given else {

@@ -1,12 +1,13 @@
 // Lists of rows in bytes, 8 bytes a row.
 use crate::Row;
 use arith::checks::Check;
+use arith::checks::Refusal;
 use pauli::Pauli;
 ghost use mathlib.Core.Path.{_≡_};
 ghost use mathlib.Core.Bool.{true};
 ghost use Prim.Native.Nat.{_+_, _*_, _/_, _≤_, _<_};
 ghost use lib.ListN.{length};
-ghost use Rattle.arith.specs.Refusals.{Dimension, checked, rowOf};
+ghost use Rattle.arith.specs.Refusals.{Dimension, numberOf, rowOf};
 ghost use Rattle.pauli.specs.View.{view};
 ghost use Rattle.gates.specs.Row.{apply, run};
 ghost use Rattle.gates.specs.Written.{meant, rowAt, listRows, rowsOf, allLegalRows};
@@ -28,13 +29,13 @@ pub fn read_row(b: &[u8], r: usize) -> Row
 // 6, row: a row of the list isn't legal.
 pub fn list_legal(list: &[u8], d: u16, n: usize) -> Check
     requires { ⌜ Dimension d ⌝ }
-    ensures { λ r. ⌜ r ≡ checked (rowOf (allLegalRows d n (listRows (now (list .entry))))) ⌝ }
+    ensures { λ r. ⌜ numberOf r ≡ rowOf (allLegalRows d n (listRows (now (list .entry)))) ⌝ }
 {
     let rows = list.len() / 8;
     for r in 0..rows {
         let row = read_row(list, r);
         if !row.legal(d, n) {
-            return Check::Refused(6);
+            return Check::Refused(Refusal::Row);
         }
     }
     Check::Good

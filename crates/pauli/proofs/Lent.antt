@@ -2,15 +2,16 @@
 -- what the call's refusal is where the check refuses and past the check, and what holds of the bytes then. Assumes nothing.
 use mathlib.Core.Path.{_≡_, sym, ap, _∙_}
 use Prim.Native.Nat.{ℕ, _≤_}
-use Rattle.arith.specs.Refusals.{checked, orElse, givenOf, sizeOf, roomOf}
+use Rattle.arith.specs.Refusals.{numberOf, orElse, givenOf, sizeOf, roomOf}
 use Rattle.arith.specs.declared.checks.Check.{Check}
 use Rattle.arith.specs.declared.checks.Check.the-variants.{Refused}
+use Rattle.arith.specs.declared.checks.Refusal.{Refusal}
 use Rattle.arith.proofs.Refusals.{Stops, Given, stop, orElse-none, orElse-skip, orElse-assoc, given-good, size-good, room-good}
 use Rattle.pauli.specs.Bytes.{pauliBytes}
 
 -- ---- one more refusal, after s
 -- a call refuses by `all`, which is s or else x: where the check of s refuses, and past it
-pub stop-at : (s x : ℕ) {all k : ℕ} {r : Check} → orElse s x ≡ all → r ≡ checked s → r ≡ Refused k → Stops r all
+pub stop-at : (s x : ℕ) {all : ℕ} {k : Refusal} {r : Check} → orElse s x ≡ all → numberOf r ≡ s → r ≡ Refused k → Stops r all
 stop-at s x e f g = rw e at (stop s x f g)
 
 pub past : (s x : ℕ) {all : ℕ} → orElse s x ≡ all → s ≡ 0 → all ≡ x

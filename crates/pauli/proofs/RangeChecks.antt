@@ -7,6 +7,7 @@ use native.Mathlib.Omega.{arith}
 use lib.ListN.{length}
 use Rattle.arith.specs.Bytes.{tab}
 use Rattle.arith.specs.Refusals.{orElse, unlessHolds, rangeOf}
+use Rattle.arith.specs.declared.checks.Refusal.the-variants.{Range}
 use Rattle.arith.proofs.Cases.{by-less, ltb-case}
 use Rattle.arith.proofs.Refusals.{orElse-none, orElse-assoc, range-good as number-good}
 use Rattle.arith.proofs.Passes.{range-passes, both-pass}
@@ -16,11 +17,11 @@ use Rattle.pauli.specs.Range.{boundsOf, pauliRangeOf}
 -- ---- a number in range, and one that isn't
 range-in : {d x : ℕ} → x < d → rangeOf d x ≡ 0
 unfolding rangeOf
-range-in {d} {x} h = ltb-case (λ b. unlessHolds 5 b ≡ 0) x d (λ l. refl) (λ l. absurd (omega arith))
+range-in {d} {x} h = ltb-case (λ b. unlessHolds Range b ≡ 0) x d (λ l. refl) (λ l. absurd (omega arith))
 
 range-out : {d x : ℕ} → d ≤ x → rangeOf d x ≡ 5
 unfolding rangeOf
-range-out {d} {x} h = ltb-case (λ b. unlessHolds 5 b ≡ 5) x d (λ l. absurd (omega arith)) (λ l. refl)
+range-out {d} {x} h = ltb-case (λ b. unlessHolds Range b ≡ 5) x d (λ l. absurd (omega arith)) (λ l. refl)
 
 -- the larger of two is the second, or the first
 pub second-larger : (d x y : ℕ) → x < y → rangeOf d y ≡ orElse (rangeOf d x) (rangeOf d y)

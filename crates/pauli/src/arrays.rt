@@ -5,7 +5,7 @@ ghost use mathlib.Core.Path.{_≡_};
 ghost use Prim.Native.Nat.{ℕ, _+_, _*_, _≤_, _<_};
 ghost use lib.ListN.{getD};
 ghost use Rattle.arith.specs.Bytes.{tab};
-ghost use Rattle.arith.specs.Refusals.{Dimension, checked, orElse, rangeOf};
+ghost use Rattle.arith.specs.Refusals.{Dimension, numberOf, orElse, rangeOf};
 ghost use Rattle.pauli.specs.Pauli.{dot};
 ghost use Rattle.pauli.specs.Range.{boundsOf};
 ghost use Rattle.pauli.specs.View.{entries};
@@ -42,7 +42,7 @@ fn larger(x: u16, y: u16) -> u16
 // Whether every v and every w is below d. The largest is looked for, and not the first that isn't below: a loop that never stops early takes several at a time.
 pub fn bounds(v: [Residue; 16], w: [Residue; 16], d: u16, n: usize) -> Check
     requires { ⌜ Dimension d × (n ≤ 16) ⌝ }
-    ensures { λ r. ⌜ r ≡ checked (orElse (boundsOf d (entries n v)) (boundsOf d (entries n w))) ⌝ }
+    ensures { λ r. ⌜ numberOf r ≡ orElse (boundsOf d (entries n v)) (boundsOf d (entries n w)) ⌝ }
 {
     let mut top: u16 = 0;
     for i in 0..n {

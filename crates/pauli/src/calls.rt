@@ -4,14 +4,14 @@ use arith::checks::Answer;
 use arith::checks::Check;
 ghost use mathlib.Core.Path.{_≡_};
 ghost use lib.ListN.{length};
-ghost use Rattle.arith.specs.Refusals.{checked, orElse, givenOf, sizeOf, roomOf};
+ghost use Rattle.arith.specs.Refusals.{numberOf, orElse, givenOf, sizeOf, roomOf};
 ghost use Rattle.arith.specs.Answers.{Answered, Written};
 ghost use Rattle.pauli.specs.Bytes.{pauliBytes};
 ghost use Rattle.pauli.specs.Calls.{productRefusal, productBytes, powerRefusal, powerBytes, commutationRefusal, commutationNumber};
 
 // 1 and 2, then 3 of each of two Paulis, whose bytes are as many as `first` and `second` say.
 fn commutation_check(d: u16, n: u16, first: usize, second: usize) -> Check
-    ensures { λ r. ⌜ r ≡ checked (orElse (givenOf d n) (orElse (sizeOf (pauliBytes n) first) (sizeOf (pauliBytes n) second))) ⌝ }
+    ensures { λ r. ⌜ numberOf r ≡ orElse (givenOf d n) (orElse (sizeOf (pauliBytes n) first) (sizeOf (pauliBytes n) second)) ⌝ }
 {
     let given = arith::checks::given(d, n);
     let Check::Good = given else {
@@ -27,7 +27,7 @@ fn commutation_check(d: u16, n: u16, first: usize, second: usize) -> Check
 
 // 1 and 2, then 3 of each of two Paulis, then 4 of an output.
 fn product_check(d: u16, n: u16, first: usize, second: usize, room: usize) -> Check
-    ensures { λ r. ⌜ r ≡ checked (orElse (givenOf d n) (orElse (sizeOf (pauliBytes n) first) (orElse (sizeOf (pauliBytes n) second) (roomOf (pauliBytes n) room)))) ⌝ }
+    ensures { λ r. ⌜ numberOf r ≡ orElse (givenOf d n) (orElse (sizeOf (pauliBytes n) first) (orElse (sizeOf (pauliBytes n) second) (roomOf (pauliBytes n) room))) ⌝ }
 {
     let found = commutation_check(d, n, first, second);
     let Check::Good = found else {
@@ -38,7 +38,7 @@ fn product_check(d: u16, n: u16, first: usize, second: usize, room: usize) -> Ch
 
 // 3 of a Pauli, then 4 of an output for one.
 pub fn lent(n: u16, size: usize, room: usize) -> Check
-    ensures { λ r. ⌜ r ≡ checked (orElse (sizeOf (pauliBytes n) size) (roomOf (pauliBytes n) room)) ⌝ }
+    ensures { λ r. ⌜ numberOf r ≡ orElse (sizeOf (pauliBytes n) size) (roomOf (pauliBytes n) room) ⌝ }
 {
     let want = 2 * (1 + 2 * (n as usize));
     arith::checks::lent(want, size, want, room)
@@ -46,7 +46,7 @@ pub fn lent(n: u16, size: usize, room: usize) -> Check
 
 // 1 and 2, then 3 of a Pauli, then 4 of an output.
 fn power_check(d: u16, n: u16, size: usize, room: usize) -> Check
-    ensures { λ r. ⌜ r ≡ checked (orElse (givenOf d n) (orElse (sizeOf (pauliBytes n) size) (roomOf (pauliBytes n) room))) ⌝ }
+    ensures { λ r. ⌜ numberOf r ≡ orElse (givenOf d n) (orElse (sizeOf (pauliBytes n) size) (roomOf (pauliBytes n) room)) ⌝ }
 {
     let given = arith::checks::given(d, n);
     let Check::Good = given else {

@@ -6,7 +6,7 @@ use arith::residue::Residue;
 ghost use mathlib.Core.Path.{_≡_};
 ghost use Prim.Native.Nat.{ℕ, _*_, _-_, _%_, _≤_, _<_};
 ghost use Rattle.arith.specs.Bytes.{tab};
-ghost use Rattle.arith.specs.Refusals.{Dimension, checked};
+ghost use Rattle.arith.specs.Refusals.{Dimension, numberOf};
 ghost use Rattle.pauli.specs.Pauli.{InRange, plus, product, phaseOnly, power, comm, unit, parity};
 ghost use Rattle.pauli.specs.Range.{pauliRangeOf, pairRangeOf};
 ghost use Rattle.pauli.specs.View.{at, entries, view};
@@ -159,7 +159,7 @@ impl Pauli {
     // 5: the phase below 2d, then every v and every w below d.
     pub fn range(self, d: u16, n: usize) -> Check
         requires { ⌜ Dimension d × (n ≤ 16) ⌝ }
-        ensures { λ r. ⌜ r ≡ checked (pauliRangeOf d (view n self)) ⌝ }
+        ensures { λ r. ⌜ numberOf r ≡ pauliRangeOf d (view n self) ⌝ }
     {
         let phase = self.phase;
         let v = self.v;
@@ -174,7 +174,7 @@ impl Pauli {
     // 5 of this Pauli, then of the other.
     pub fn pair_range(self, other: Pauli, d: u16, n: usize) -> Check
         requires { ⌜ Dimension d × (n ≤ 16) ⌝ }
-        ensures { λ r. ⌜ r ≡ checked (pairRangeOf d (view n self) (view n other)) ⌝ }
+        ensures { λ r. ⌜ numberOf r ≡ pairRangeOf d (view n self) (view n other) ⌝ }
     {
         let of_self = self.range(d, n);
         let Check::Good = of_self else {

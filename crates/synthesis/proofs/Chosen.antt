@@ -28,7 +28,7 @@ chosen-accepted {d} {n} {bytes} {new} {a} old v f =
     record { list = λ z. ap (take (8 * a .value)) f ∙ take-at (listOf d n bytes) (drop (length (listOf d n bytes)) old) (8 * a .value) k }
 
 pub chosen-refused : {d n z : ℕ} {bytes new : List ℕ} {a : Answer} {r : Check} → Stops r z → a .number ≡ numberOf r → Chosen d n bytes new a
-chosen-refused s e = record { list = λ z. absurd (stops-some s (sym (e ∙ s .number) ∙ z)) }
+chosen-refused s e = record { list = λ z. absurd (stops-some s (sym (e ∙ s .same) ∙ z)) }
 
 -- ---- what an output held before makes no difference
 pub record SameAnswer (a a′ : Answer) (new new′ : List ℕ) : Type 0 where

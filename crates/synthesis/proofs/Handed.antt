@@ -127,5 +127,5 @@ stops-some {z} s e = let o : _≡_ {A = ℕ} 0 1 = s .value 1 ∙ ap (λ (x : �
 
 pub promise-refused : {d n : ℕ} {bytes old : List ℕ} {a : Answer} {r : Check} → Stops r (synthesisRefusal d n bytes (length old)) → (a .number ≡ numberOf r) × (a .value ≡ 0) → Synthesised d n bytes old old a
 promise-refused {d} {n} {bytes} {old} {a} s e =
-    let q : a .number ≡ synthesisRefusal d n bytes (length old) = e .0 ∙ s .number in
+    let q : a .number ≡ synthesisRefusal d n bytes (length old) = e .0 ∙ s .same in
     promise q (λ z. absurd (stops-some s (sym q ∙ z))) (λ ne. (e .1, refl))

@@ -8,7 +8,9 @@ use Prim.Native.Nat.{ℕ, zero, suc, _*_, _<_}
 use native.Mathlib.Omega.{arith}
 use lib.ListN.{length}
 use lib.Dec.{leb, ltb, eqb}
-use Rattle.arith.specs.Refusals.{orElse, unlessHolds, dimensionOf, widthOf, givenOf, sizeOf, roomOf, rangeOf, pairingOf, parityOf}
+use Rattle.arith.specs.Refusals.{refusalNumber, orElse, unlessHolds, dimensionOf, widthOf, givenOf, sizeOf, roomOf, rangeOf, pairingOf, parityOf}
+use Rattle.arith.specs.declared.checks.Refusal.{Refusal}
+use Rattle.arith.specs.declared.checks.Refusal.the-variants.{Dimension, Width, Length, Room, Range}
 use Rattle.arith.proofs.Refusals.{orElse-none, given-good}
 use Rattle.pauli.specs.Pauli.{Pauli}
 use Rattle.pauli.specs.Bytes.{pauliBytes, decode}
@@ -49,7 +51,7 @@ later zero y l u = (refl, u)
 later (suc x) y l (inl e) = absurd (omega arith)
 later (suc x) y l (inr e) = absurd (omega arith)
 
-unless-below : (k : ℕ) (test : Bool) → k < 7 → unlessHolds k test < 7
+unless-below : (k : Refusal) (test : Bool) → refusalNumber k < 7 → unlessHolds k test < 7
 unless-below k true l = omega arith
 unless-below k false l = l
 
@@ -59,19 +61,19 @@ or-below (suc x) y l m = l
 
 given-below : (d n : ℕ) → givenOf d n < 7
 unfolding givenOf dimensionOf widthOf
-given-below d n = or-below (dimensionOf d) (widthOf n) (unless-below 1 (leb 2 d && leb d 1024) (omega arith)) (unless-below 2 (leb 1 n && leb n 16) (omega arith))
+given-below d n = or-below (dimensionOf d) (widthOf n) (unless-below Dimension (leb 2 d && leb d 1024) (omega arith)) (unless-below Width (leb 1 n && leb n 16) (omega arith))
 
 size-below : (want have : ℕ) → sizeOf want have < 7
 unfolding sizeOf
-size-below want have = unless-below 3 (eqb have want) (omega arith)
+size-below want have = unless-below Length (eqb have want) (omega arith)
 
 room-below : (want have : ℕ) → roomOf want have < 7
 unfolding roomOf
-room-below want have = unless-below 4 (leb want have) (omega arith)
+room-below want have = unless-below Room (leb want have) (omega arith)
 
 range-below : (bound x : ℕ) → rangeOf bound x < 7
 unfolding rangeOf
-range-below bound x = unless-below 5 (ltb x bound) (omega arith)
+range-below bound x = unless-below Range (ltb x bound) (omega arith)
 
 bounds-below : (d : ℕ) (xs : List ℕ) → boundsOf d xs < 7
 unfolding boundsOf

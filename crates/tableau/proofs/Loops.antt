@@ -10,9 +10,12 @@ use lib.ListN.{length, getD, drop, drop-of-length-le, List·getD-append}
 use lib.Seq.{drop-cons, getD-append-add}
 use Rattle.arith.specs.Bytes.{tab}
 use Rattle.arith.proofs.Bytes.{tab-length, tab-at, tab-ext, tab-list, tab-map}
-use Rattle.arith.specs.Refusals.{orElse, checked, pairingOf, parityOf}
+use Rattle.arith.specs.Refusals.{orElse, numberOf, pairingOf, parityOf}
 use Rattle.arith.specs.declared.checks.Check.{Check}
-use Rattle.arith.specs.declared.checks.Check.the-variants.{Good, Refused}
+use Rattle.arith.specs.declared.checks.Check.the-variants.{Refused}
+use Rattle.arith.specs.declared.checks.Refusal.{Refusal}
+use Rattle.arith.specs.declared.checks.Refusal.the-variants.{Pairing, Parity}
+use Rattle.arith.proofs.Refusals.{not-zero}
 use Rattle.pauli.specs.Pauli.{Pauli, product, power, phaseOnly, unit}
 use Rattle.pauli.specs.Range.{pauliRangeOf}
 use Rattle.tableau.specs.Tableau.{upFrom, column, multiplied, image, compose}
@@ -54,25 +57,25 @@ pub multiplied-end : (d n : ℕ) (x : Pauli) (t : List Pauli) (ks : List ℕ) (j
 multiplied-end d n x t ks j h = rw (drop-of-length-le t h) refl
 
 -- ---- what a test's answer says of the test, and the test of the answer
-pub pairing-failed : (holds : Bool) {k : ℕ} {r : Check} → r ≡ checked (pairingOf holds) → r ≡ Refused k → holds ≡ false
-unfolding checked pairingOf
-pairing-failed true e g = let z : _≡_ {A = ℕ} 0 1 = cc in absurd (omega arith)
+pub pairing-failed : (holds : Bool) {k : Refusal} {r : Check} → numberOf r ≡ pairingOf holds → r ≡ Refused k → holds ≡ false
+unfolding pairingOf
+pairing-failed true e g = absurd (not-zero e g)
 pairing-failed false e g = refl
 
-pub pairing-refused : (holds : Bool) → holds ≡ false → Refused 7 ≡ checked (pairingOf holds)
-unfolding checked pairingOf
+pub pairing-refused : (holds : Bool) → holds ≡ false → numberOf (Refused Pairing) ≡ pairingOf holds
+unfolding pairingOf
 pairing-refused holds e = rw e
 
-pub pairing-passed : (holds : Bool) → holds ≡ true → Good ≡ checked (pairingOf holds)
-unfolding checked pairingOf
+pub pairing-passed : (holds : Bool) → holds ≡ true → 0 ≡ pairingOf holds
+unfolding pairingOf
 pairing-passed holds e = rw e
 
-pub parity-refused : (holds : Bool) → holds ≡ false → Refused 8 ≡ checked (parityOf holds)
-unfolding checked parityOf
+pub parity-refused : (holds : Bool) → holds ≡ false → numberOf (Refused Parity) ≡ parityOf holds
+unfolding parityOf
 parity-refused holds e = rw e
 
-pub parity-passed : (holds : Bool) → holds ≡ true → Good ≡ checked (parityOf holds)
-unfolding checked parityOf
+pub parity-passed : (holds : Bool) → holds ≡ true → 0 ≡ parityOf holds
+unfolding parityOf
 parity-passed holds e = rw e
 
 -- ---- the power of column j: v at j, then w at j − n

@@ -4,7 +4,7 @@ use pauli::Pauli;
 ghost use mathlib.Core.Path.{_≡_};
 ghost use Prim.Native.Nat.{_*_, _≤_};
 ghost use lib.ListN.{length};
-ghost use Rattle.arith.specs.Refusals.{Dimension, checked, orElse};
+ghost use Rattle.arith.specs.Refusals.{Dimension, numberOf, orElse};
 ghost use Rattle.arith.specs.Answers.{Written};
 ghost use Rattle.pauli.specs.Bytes.{pauliBytes, decode};
 ghost use Rattle.pauli.specs.View.{view};
@@ -25,7 +25,7 @@ pub fn tableau_bytes(n: usize) -> usize
 
 // 1 and 2, then 3 of a tableau.
 pub fn given(d: u16, n: u16, size: usize) -> Check
-    ensures { λ r. ⌜ r ≡ checked (sizedOf d n size) ⌝ }
+    ensures { λ r. ⌜ numberOf r ≡ sizedOf d n size ⌝ }
 {
     let of_numbers = arith::checks::given(d, n);
     let Check::Good = of_numbers else {
@@ -38,7 +38,7 @@ pub fn given(d: u16, n: u16, size: usize) -> Check
 
 // 1, 2, 3, 4, 6.
 fn tableau_check(d: u16, n: u16, list: &[u8], room: usize) -> Check
-    ensures { λ r. ⌜ r ≡ checked (tableauRefusal d n (now (list .entry)) room) ⌝ }
+    ensures { λ r. ⌜ numberOf r ≡ tableauRefusal d n (now (list .entry)) room ⌝ }
 {
     let given = arith::checks::given(d, n);
     let Check::Good = given else {
@@ -72,7 +72,7 @@ pub fn tableau_of(d: u16, n: u16, list: &[u8], out: &mut [u8]) -> u16
 
 // 1 and 2, then 3 of the tableau and of the Pauli, 4.
 fn image_check(d: u16, n: u16, first: usize, second: usize, room: usize) -> Check
-    ensures { λ r. ⌜ r ≡ checked (imageLengths d n first second room) ⌝ }
+    ensures { λ r. ⌜ numberOf r ≡ imageLengths d n first second room ⌝ }
 {
     let of_tableau = given(d, n, first);
     let Check::Good = of_tableau else {
@@ -84,7 +84,7 @@ fn image_check(d: u16, n: u16, first: usize, second: usize, room: usize) -> Chec
 // 5 of the tableau and of the Pauli, then 7, 8.
 fn image_tests(t: &[[u16; 33]; 32], p: Pauli, d: u16, n: usize) -> Check
     requires { ⌜ Dimension d × (n ≤ 16) ⌝ }
-    ensures { λ r. ⌜ r ≡ checked (imageTests d n (tableView n (now (t .entry))) (view n p)) ⌝ }
+    ensures { λ r. ⌜ numberOf r ≡ imageTests d n (tableView n (now (t .entry))) (view n p) ⌝ }
 {
     let ranged = crate::checks::range(t, d, n);
     let Check::Good = ranged else {
@@ -129,7 +129,7 @@ pub fn image(d: u16, n: u16, tableau: &[u8], p: &[u8], out: &mut [u8]) -> u16
 
 // 1 and 2, then 3 of both, 4.
 fn compose_check(d: u16, n: u16, first: usize, second: usize, room: usize) -> Check
-    ensures { λ r. ⌜ r ≡ checked (composeLengths d n first second room) ⌝ }
+    ensures { λ r. ⌜ numberOf r ≡ composeLengths d n first second room ⌝ }
 {
     let of_first = given(d, n, first);
     let Check::Good = of_first else {
@@ -142,7 +142,7 @@ fn compose_check(d: u16, n: u16, first: usize, second: usize, room: usize) -> Ch
 // 7 of both, then 8 of both.
 fn both_sound(first: &[[u16; 33]; 32], second: &[[u16; 33]; 32], d: u16, n: usize) -> Check
     requires { ⌜ Dimension d × (n ≤ 16) ⌝ }
-    ensures { λ r. ⌜ r ≡ checked (bothSoundnessOf d n (tableView n (now (first .entry))) (tableView n (now (second .entry)))) ⌝ }
+    ensures { λ r. ⌜ numberOf r ≡ bothSoundnessOf d n (tableView n (now (first .entry))) (tableView n (now (second .entry))) ⌝ }
 {
     let paired = crate::checks::pairing(first, d, n);
     let Check::Good = paired else {
@@ -162,7 +162,7 @@ fn both_sound(first: &[[u16; 33]; 32], second: &[[u16; 33]; 32], d: u16, n: usiz
 // 5 of both.
 fn both_ranges(first: &[[u16; 33]; 32], second: &[[u16; 33]; 32], d: u16, n: usize) -> Check
     requires { ⌜ Dimension d × (n ≤ 16) ⌝ }
-    ensures { λ r. ⌜ r ≡ checked (orElse (tableauRangeOf d (tableView n (now (first .entry)))) (tableauRangeOf d (tableView n (now (second .entry))))) ⌝ }
+    ensures { λ r. ⌜ numberOf r ≡ orElse (tableauRangeOf d (tableView n (now (first .entry)))) (tableauRangeOf d (tableView n (now (second .entry)))) ⌝ }
 {
     let ranged = crate::checks::range(first, d, n);
     let Check::Good = ranged else {
@@ -174,7 +174,7 @@ fn both_ranges(first: &[[u16; 33]; 32], second: &[[u16; 33]; 32], d: u16, n: usi
 // 5 of both, then 7 of both, 8 of both.
 fn compose_tests(first: &[[u16; 33]; 32], second: &[[u16; 33]; 32], d: u16, n: usize) -> Check
     requires { ⌜ Dimension d × (n ≤ 16) ⌝ }
-    ensures { λ r. ⌜ r ≡ checked (composeTests d n (tableView n (now (first .entry))) (tableView n (now (second .entry)))) ⌝ }
+    ensures { λ r. ⌜ numberOf r ≡ composeTests d n (tableView n (now (first .entry))) (tableView n (now (second .entry))) ⌝ }
 {
     let ranged = both_ranges(first, second, d, n);
     let Check::Good = ranged else {
@@ -216,7 +216,7 @@ pub fn compose(d: u16, n: u16, first: &[u8], second: &[u8], out: &mut [u8]) -> u
 
 // 1 and 2, then 3, 4.
 fn inverse_check(d: u16, n: u16, size: usize, room: usize) -> Check
-    ensures { λ r. ⌜ r ≡ checked (inverseLengths d n size room) ⌝ }
+    ensures { λ r. ⌜ numberOf r ≡ inverseLengths d n size room ⌝ }
 {
     let of_tableau = given(d, n, size);
     let Check::Good = of_tableau else {

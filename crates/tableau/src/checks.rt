@@ -1,8 +1,9 @@
 // The tests of a tableau: 5, the range of its numbers, and the two of a sound one, 7, pairing, and 8, parity.
 use arith::checks::Check;
+use arith::checks::Refusal;
 ghost use mathlib.Core.Path.{_≡_};
 ghost use Prim.Native.Nat.{_*_, _≤_, _<_};
-ghost use Rattle.arith.specs.Refusals.{Dimension, checked, pairingOf, parityOf};
+ghost use Rattle.arith.specs.Refusals.{Dimension, numberOf, pairingOf, parityOf};
 ghost use Rattle.tableau.specs.Tableau.{paired};
 ghost use Rattle.tableau.specs.Parts.{testsOf};
 ghost use Rattle.tableau.specs.Range.{tableauRangeOf};
@@ -35,13 +36,13 @@ fn pair_passes(t: &[[u16; 33]; 32], j: usize, k: usize, d: u16, n: usize) -> boo
 fn later_pairs(t: &[[u16; 33]; 32], j: usize, d: u16, n: usize) -> Check
     requires { ⌜ Dimension d × (n ≤ 16) ⌝ }
     requires { ⌜ j < 2 * n ⌝ }
-    ensures { λ r. ⌜ r ≡ checked (pairingOf (laterPass d n (tableView n (now (t .entry))) j)) ⌝ }
+    ensures { λ r. ⌜ numberOf r ≡ pairingOf (laterPass d n (tableView n (now (t .entry))) j) ⌝ }
 {
     let m = 2 * n;
     for k in (j + 1)..m {
         let passes = pair_passes(t, j, k, d, n);
         if !passes {
-            return Check::Refused(7);
+            return Check::Refused(Refusal::Pairing);
         }
     }
     Check::Good
@@ -50,7 +51,7 @@ fn later_pairs(t: &[[u16; 33]; 32], j: usize, d: u16, n: usize) -> Check
 // 7 of every two columns.
 pub fn pairing(t: &[[u16; 33]; 32], d: u16, n: usize) -> Check
     requires { ⌜ Dimension d × (n ≤ 16) ⌝ }
-    ensures { λ r. ⌜ r ≡ checked (pairingOf (pairingHolds d n (tableView n (now (t .entry))))) ⌝ }
+    ensures { λ r. ⌜ numberOf r ≡ pairingOf (pairingHolds d n (tableView n (now (t .entry)))) ⌝ }
 {
     let m = 2 * n;
     for j in 0..m {
@@ -65,13 +66,13 @@ pub fn pairing(t: &[[u16; 33]; 32], d: u16, n: usize) -> Check
 // 8 of every column.
 pub fn parity(t: &[[u16; 33]; 32], d: u16, n: usize) -> Check
     requires { ⌜ Dimension d × (n ≤ 16) ⌝ }
-    ensures { λ r. ⌜ r ≡ checked (parityOf (parityHolds d n (tableView n (now (t .entry))))) ⌝ }
+    ensures { λ r. ⌜ numberOf r ≡ parityOf (parityHolds d n (tableView n (now (t .entry)))) ⌝ }
 {
     let m = 2 * n;
     for j in 0..m {
         let odd = crate::table::column(t, j).parity(d, n);
         if odd != 0 {
-            return Check::Refused(8);
+            return Check::Refused(Refusal::Parity);
         }
     }
     Check::Good
@@ -80,7 +81,7 @@ pub fn parity(t: &[[u16; 33]; 32], d: u16, n: usize) -> Check
 // 7 of every two columns, then 8 of every column.
 pub fn soundness(t: &[[u16; 33]; 32], d: u16, n: usize) -> Check
     requires { ⌜ Dimension d × (n ≤ 16) ⌝ }
-    ensures { λ r. ⌜ r ≡ checked (soundnessOf d n (tableView n (now (t .entry)))) ⌝ }
+    ensures { λ r. ⌜ numberOf r ≡ soundnessOf d n (tableView n (now (t .entry))) ⌝ }
 {
     let paired = pairing(t, d, n);
     let Check::Good = paired else {
@@ -92,7 +93,7 @@ pub fn soundness(t: &[[u16; 33]; 32], d: u16, n: usize) -> Check
 // 5 of every column.
 pub fn range(t: &[[u16; 33]; 32], d: u16, n: usize) -> Check
     requires { ⌜ Dimension d × (n ≤ 16) ⌝ }
-    ensures { λ r. ⌜ r ≡ checked (tableauRangeOf d (tableView n (now (t .entry)))) ⌝ }
+    ensures { λ r. ⌜ numberOf r ≡ tableauRangeOf d (tableView n (now (t .entry))) ⌝ }
 {
     let m = 2 * n;
     for j in 0..m {
@@ -107,7 +108,7 @@ pub fn range(t: &[[u16; 33]; 32], d: u16, n: usize) -> Check
 // 5, then 7, then 8.
 pub fn tests(t: &[[u16; 33]; 32], d: u16, n: usize) -> Check
     requires { ⌜ Dimension d × (n ≤ 16) ⌝ }
-    ensures { λ r. ⌜ r ≡ checked (testsOf d n (tableView n (now (t .entry)))) ⌝ }
+    ensures { λ r. ⌜ numberOf r ≡ testsOf d n (tableView n (now (t .entry))) ⌝ }
 {
     let ranged = range(t, d, n);
     let Check::Good = ranged else {

@@ -12,6 +12,7 @@ use borrow.Author.Tests.{leb-true, leb-false, le-leb, lt-leb, eq-eqb}
 use Rattle.arith.specs.Bytes.{bytesOf, front}
 use Rattle.arith.specs.Answers.{Written}
 use Rattle.arith.specs.Refusals.{orElse, givenOf, listSizeOf, roomOf, rowOf, unlessHolds}
+use Rattle.arith.specs.declared.checks.Refusal.the-variants.{Length, Room}
 use Rattle.arith.proofs.Bytes.{bytes-length}
 use Rattle.arith.proofs.Refusals.{given-good}
 use Rattle.pauli.specs.Pauli.{Pauli}
@@ -72,11 +73,11 @@ list-size : (k : ℕ) → listSizeOf (8 * k) ≡ rowCountOf k
 unfolding listSizeOf rowCountOf
 list-size k =
     let e : eqb (8 * k % 8) 0 ≡ true = eq-eqb (8 * k % 8) 0 (omega arith) in
-    ap₂ (λ (a b : Bool). unlessHolds 3 (a && b)) e (large-lists k)
+    ap₂ (λ (a b : Bool). unlessHolds Length (a && b)) e (large-lists k)
 
 pub has-room : (want have : ℕ) → want ≤ have → roomOf want have ≡ 0
 unfolding roomOf
-has-room want have h = ap (unlessHolds 4) (le-leb want have h)
+has-room want have h = ap (unlessHolds Room) (le-leb want have h)
 
 pub each-rows : (rows : List WrittenRow) → each rowNumbers rows ≡ listNumbers rows
 unfolding each listNumbers

@@ -10,9 +10,11 @@ use lib.Seq.{take-at, drop-at}
 use borrow.Author.Tests.{eq-eqb}
 use borrow.Author.Needs.{needs}
 use Rattle.arith.specs.Bytes.{tab, numberAt, numbersAt, bytesOf}
-use Rattle.arith.specs.Refusals.{checked, numberOf, orElse, givenOf, sizeOf, roomOf, unlessHolds}
+use Rattle.arith.specs.Refusals.{numberOf, orElse, givenOf, sizeOf, roomOf, unlessHolds}
 use Rattle.arith.specs.declared.checks.Check.{Check}
 use Rattle.arith.specs.declared.checks.Check.the-variants.{Good, Refused}
+use Rattle.arith.specs.declared.checks.Refusal.{Refusal}
+use Rattle.arith.specs.declared.checks.Refusal.the-variants.{Length}
 use Rattle.arith.specs.declared.checks.Answer.{Answer}
 use Rattle.arith.proofs.Bytes.{tab-cons, tab-append, tab-ext, tab-length, tab-map, bytes-length}
 use Rattle.arith.proofs.Refusals.{Given, good, stop, orElse-none, orElse-assoc, given-good, size-good, held, both-held}
@@ -70,22 +72,22 @@ columns-decoded n columns f e =
 -- ---- the counts
 counts-good : (n count : ℕ) (full : Bool) → countsOf n count full ≡ 0 → (full ≡ true) × (count ≡ 2 * n)
 unfolding countsOf
-counts-good n count full e = let z = orElse-none (unlessHolds 3 full) (sizeOf (2 * n) count) e in (held 2 full (z .0), size-good (z .1))
+counts-good n count full e = let z = orElse-none (unlessHolds Length full) (sizeOf (2 * n) count) e in (held Length full (z .0), size-good (z .1))
 
 size-holds : (want have : ℕ) → have ≡ want → sizeOf want have ≡ 0
 unfolding sizeOf
-size-holds want have e = ap (unlessHolds 3) (eq-eqb have want e)
+size-holds want have e = ap (unlessHolds Length) (eq-eqb have want e)
 
 counts-hold : (n count : ℕ) (full : Bool) → full ≡ true → count ≡ 2 * n → countsOf n count full ≡ 0
 unfolding countsOf
 counts-hold n count full e f = rw e (size-holds (2 * n) count f)
 
-pub counts-full : (n count : ℕ) (full : Bool) (r : Check) → full ≡ true → r ≡ checked (sizeOf (2 * n) count) → r ≡ checked (countsOf n count full)
+pub counts-full : (n count : ℕ) (full : Bool) (r : ℕ) → full ≡ true → r ≡ sizeOf (2 * n) count → r ≡ countsOf n count full
 unfolding countsOf
 counts-full n count full r e f = rw e f
 
-pub counts-short : (n count : ℕ) (full : Bool) → full ≡ false → Refused 3 ≡ checked (countsOf n count full)
-unfolding countsOf checked
+pub counts-short : (n count : ℕ) (full : Bool) → full ≡ false → numberOf (Refused Length) ≡ countsOf n count full
+unfolding countsOf
 counts-short n count full e = rw e
 
 -- ---- the refusals of a tableau are those of its columns
@@ -149,17 +151,17 @@ list-length d n rows hd hn f =
 
 -- ---- what is printed
 -- the counts are wrong, or 1 or 2
-pub columns-refused : (d n count : ℕ) (full : Bool) (numbers : List ℕ) {r : Check} {k : ℕ} {output : List ℕ} → r ≡ checked (orElse (givenOf d n) (countsOf n count full)) → r ≡ Refused k
+pub columns-refused : (d n count : ℕ) (full : Bool) (numbers : List ℕ) {r : Check} {k : Refusal} {output : List ℕ} → numberOf r ≡ orElse (givenOf d n) (countsOf n count full) → r ≡ Refused k
     → output ≡ printRefusal (numberOf r) → ColumnsConvert d n count full numbers output
 columns-refused d n count full numbers {output = output} e f p = λ columns rest c q same.
     let x = orElse (givenOf d n) (countsOf n count full) in
     let y = orElse (tableauRangeOf d (map (pauliOf n) columns)) (soundnessOf d n (map (pauliOf n) columns)) in
     let s = stop x y e f in
     let z : columnsRefusal d n columns ≡ orElse x y = sym (orElse-assoc (givenOf d n) (countsOf n count full) y ∙ ap₂ (λ (m : ℕ) (t : Bool). orElse (givenOf d n) (orElse (countsOf n m t) y)) c q) in
-    refuses z (λ o. let v = rw o at (s .value 1) in absurd (omega (arith, v))) (p ∙ ap printRefusal (s .number))
+    refuses z (λ o. let v = rw o at (s .value 1) in absurd (omega (arith, v))) (p ∙ ap printRefusal (s .same))
 
 -- past the counts: the bytes at the buffer's front are the tableau's
-pub columns-passed : (d n count : ℕ) (full : Bool) {r : Check} → r ≡ checked (orElse (givenOf d n) (countsOf n count full)) → r ≡ Good → Given d n × ((full ≡ true) × (count ≡ 2 * n))
+pub columns-passed : (d n count : ℕ) (full : Bool) {r : Check} → numberOf r ≡ orElse (givenOf d n) (countsOf n count full) → r ≡ Good → Given d n × ((full ≡ true) × (count ≡ 2 * n))
 columns-passed d n count full e f =
     let z = orElse-none (givenOf d n) (countsOf n count full) (good _ e f) in
     (given-good (z .0), counts-good n count full (z .1))

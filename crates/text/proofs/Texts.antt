@@ -7,6 +7,8 @@ use native.Mathlib.Omega.{arith}
 use lib.ListN.{length, take, drop}
 use lib.Seq.{take-at}
 use Rattle.arith.specs.Bytes.{bytesOf}
+use Rattle.arith.specs.Refusals.{refusalNumber}
+use Rattle.arith.specs.declared.checks.Refusal.the-variants.{Text}
 use Rattle.gates.specs.Written.{WrittenRow, rowNumbers, encodeRows}
 use Rattle.text.specs.Format.{File, tableauFile, listFile, each, printRefusal, LaidOut}
 use Rattle.text.specs.Reads.{Reads, ColumnsRead, RowsRead}
@@ -22,7 +24,7 @@ use Rattle.text.proofs.Unique.{one-file}
 pub too-long : (text : List ℕ) → 65536 < length text → (f : File) → LaidOut text f → ⊥
 too-long text h f laid = omega (arith, laid .0)
 
-pub converts-none : {text output : List ℕ} → ((f : File) → LaidOut text f → ⊥) → output ≡ printRefusal 9 → Converts text output
+pub converts-none : {text output : List ℕ} → ((f : File) → LaidOut text f → ⊥) → output ≡ printRefusal (refusalNumber Text) → Converts text output
 converts-none h p = record { file = λ f laid. absurd (h f laid); none = λ no. p }
 
 -- ---- a file: the only one that is laid out so

@@ -7,7 +7,8 @@ use Prim.Native.Nat.{ℕ, _+_, _*_, _≤_}
 use lib.ListN.{length, take, drop}
 use lib.Dec.{leb}
 use Rattle.arith.specs.Bytes.{bytesOf}
-use Rattle.arith.specs.Refusals.{unlessHolds, orElse, givenOf, sizeOf, rowOf}
+use Rattle.arith.specs.Refusals.{refusalNumber, unlessHolds, orElse, givenOf, sizeOf, rowOf}
+use Rattle.arith.specs.declared.checks.Refusal.the-variants.{Length, Text}
 use Rattle.pauli.specs.Pauli.{Pauli, InRange, phaseOnly}
 use Rattle.pauli.specs.Bytes.{numbersOf}
 use Rattle.gates.specs.Row.{run}
@@ -27,7 +28,7 @@ pub record RefusedOr (number : ℕ) (output : List ℕ) (otherwise : Type 0) : T
 -- ---- an L file
 -- 3, length: more than 4,096 rows
 unfoldable pub rowCountOf : ℕ → ℕ
-rowCountOf count = unlessHolds 3 (leb count 4096)
+rowCountOf count = unlessHolds Length (leb count 4096)
 
 -- 1, 2, 3, 6
 abbrev pub listRefusal : ℕ → ℕ → List WrittenRow → ℕ
@@ -45,7 +46,7 @@ pauliOf n (phase ∷ entries) = record { phase = phase; v = take n entries; w = 
 
 -- 3, length: a column has another count of numbers than 1 + 2n (`full` says that none has), or there are not 2n columns
 unfoldable pub countsOf : ℕ → ℕ → Bool → ℕ
-countsOf n count full = orElse (unlessHolds 3 full) (sizeOf (2 * n) count)
+countsOf n count full = orElse (unlessHolds Length full) (sizeOf (2 * n) count)
 
 -- 1, 2, 3, 5, 7, 8
 abbrev pub columnsRefusal : ℕ → ℕ → List (List ℕ) → ℕ
@@ -75,7 +76,7 @@ PrintsFor (tableauFile d n columns) output = RefusedOr (columnsRefusal d n colum
 -- for the file that the text holds, and 9 for a text that holds none (a text longer than 65,536 bytes is one: see `LaidOut`)
 pub record Converts (text output : List ℕ) : Type 0 where
   pub file : (f : File) → LaidOut text f → PrintsFor f output
-  pub none : ((f : File) → LaidOut text f → ⊥) → output ≡ printRefusal 9
+  pub none : ((f : File) → LaidOut text f → ⊥) → output ≡ printRefusal (refusalNumber Text)
 
 -- ---- its parts: what is printed for the bytes of rows, of a tableau's 2n columns of 1 + 2n numbers, and of the columns of any T file at a buffer's front
 abbrev pub ListConverts : ℕ → ℕ → List ℕ → List ℕ → Type 0

@@ -5,11 +5,16 @@ use crate::printing::print_tableau;
 use crate::reading::Reading;
 use crate::reading::read;
 use arith::checks::Check;
+use arith::checks::Refusal;
+use arith::checks::refusal_number;
 ghost use mathlib.Core.Path.{_≡_};
 ghost use mathlib.Core.Bool.{true};
 ghost use Prim.Native.Nat.{_+_, _*_, _≤_};
 ghost use lib.ListN.{length, take};
-ghost use Rattle.arith.specs.Refusals.{checked, orElse, givenOf};
+ghost use Rattle.arith.specs.Refusals.{refusalNumber, numberOf, orElse, givenOf};
+ghost use Rattle.arith.specs.declared.checks.Refusal.the-variants.{Text};
+ghost use Rattle.text.specs.Format.{printRefusal};
+ghost use Rattle.text.specs.Prints.{Prints};
 ghost use Rattle.text.specs.Convert.{countsOf, ListConverts, TableauConverts, ColumnsConvert, Converts};
 
 pub mod printing;
@@ -29,24 +34,23 @@ fn convert_list(d: u16, n: u16, list: &[u8], answer: &mut [u8], out: &mut [u8]) 
 
 // 3: the counts of the numbers in the columns, and of the columns.
 fn counts(n: u16, lines: usize, full: bool) -> Check
-    ensures { λ r. ⌜ r ≡ checked (countsOf n lines full) ⌝ }
+    ensures { λ r. ⌜ numberOf r ≡ countsOf n lines full ⌝ }
 {
     if full {
         return arith::checks::size(2 * (n as usize), lines);
     }
-    Check::Refused(3)
+    Check::Refused(Refusal::Length)
 }
 
 // 1 and 2, then 3.
 fn columns_check(d: u16, n: u16, lines: usize, full: bool) -> Check
-    ensures { λ r. ⌜ r ≡ checked (orElse (givenOf d n) (countsOf n lines full)) ⌝ }
+    ensures { λ r. ⌜ numberOf r ≡ orElse (givenOf d n) (countsOf n lines full) ⌝ }
 {
     let of_given = arith::checks::given(d, n);
-    let of_counts = counts(n, lines, full);
     let Check::Good = of_given else {
         return of_given;
     };
-    of_counts
+    counts(n, lines, full)
 }
 
 // Prints a list that does the tableau, or a refusal.
@@ -84,16 +88,24 @@ fn convert_columns(
     convert_tableau(d, n, &numbers[..2 * (2 * m * (1 + 2 * m))], answer, out)
 }
 
+// Prints 9, the refusal of a text that holds no file, and returns its length.
+fn print_no_file(out: &mut [u8]) -> usize
+    requires { ⌜ 8 ≤ length (now out) ⌝ }
+    ensures { λ r. ⌜ Prints (printRefusal (refusalNumber Text)) (now (out .entry)) r (now (out .exit)) ⌝ }
+{
+    print_refusal(refusal_number(Refusal::Text), out)
+}
+
 // What the text program prints, at the front of `out`; returns its length.
 pub fn convert(text: &[u8], numbers: &mut [u8], answer: &mut [u8], out: &mut [u8]) -> usize
     requires { ⌜ (65536 ≤ length (now numbers)) × ((11008 ≤ length (now answer)) × (27534 ≤ length (now out))) ⌝ }
     ensures { λ r. ⌜ (r ≤ length (now (out .exit))) × Converts (now (text .entry)) (take r (now (out .exit))) ⌝ }
 {
     if 65536 < text.len() {
-        return print_refusal(9, out);
+        return print_no_file(out);
     }
     match read(text, numbers) {
-        Reading::NoFile => print_refusal(9, out),
+        Reading::NoFile => print_no_file(out),
         Reading::Tableau { d, n, lines, full } => convert_columns(
             d,
             n,

@@ -8,12 +8,12 @@ use Rattle.text.proofs.convert.Tie as tie
 
 pub convert-spec : {M : Type 1} → statement M
 convert-spec = tie.close (tie.spec
-    (λ c κs. search needs)  -- print-refusal-requires
+    (λ c κs. search needs)  -- print-no-file-requires
     (λ c. search needs)  -- same-length
-    (λ c. let p = c .before .before .print-refusal .ensures in (printed-room p, converts-none (too-long _ (c .before .before .before .before .if1 .taken)) (printed p)))  -- returns
+    (λ c. let p = c .before .before .print-no-file .ensures in (printed-room p, converts-none (too-long _ (c .before .before .before .before .if1 .taken)) (printed p)))  -- returns
     (λ c κs. search needs)  -- read-requires
     (λ c. search needs)  -- enum-told
-    (λ c κs. search needs)  -- print-refusal-requires-2
+    (λ c κs. search needs)  -- print-no-file-requires-2
     (λ c. search needs)  -- enum-known-d
     (λ c κs. let r = c .before .before .before .before .before .before .before .before .read in let h = c .before .before .before .before .before .before .before .before .before .before .before .before .before .before .before .pre in (h .1, columns-there _ _ _ _ (r .ensures) (c .before .before .before .before .d .given .1) (r .kept .1 .0)))  -- convert-columns-requires
     (λ c. search needs)  -- enum-known-d-2
@@ -23,7 +23,7 @@ convert-spec = tie.close (tie.spec
     (λ c κs. search needs)  -- convert-list-requires
     (λ c. search needs)  -- same-length-2
     (λ c. search needs)  -- same-length-3
-    (λ c. let p = c .before .before .print-refusal2 .ensures in let r = c .before .before .before .before .before .before .before .before .read in (printed-room p, converts-none (reads-none _ _ _ _ (r .ensures) (c .before .before .before .before .enum-told .given .1)) (printed p)))  -- returns-2
+    (λ c. let p = c .before .before .print-no-file2 .ensures in let r = c .before .before .before .before .before .before .before .before .read in (printed-room p, converts-none (reads-none _ _ _ _ (r .ensures) (c .before .before .before .before .enum-told .given .1)) (printed p)))  -- returns-2
     (λ c. search needs)  -- same-length-4
     (λ c. search needs)  -- same-length-5
     (λ c. search needs)  -- same-length-6

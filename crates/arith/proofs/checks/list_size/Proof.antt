@@ -1,13 +1,13 @@
 -- `arith::checks::list_size` meets its contract: each answer by the tests that led to it.
 use borrow.Author.Tests.{eq-eqb, ne-eqb, lt-leb, le-leb}
-use Rattle.arith.specs.Refusals.{checked, listSizeOf}
+use Rattle.arith.specs.Refusals.{listSizeOf}
 use native.Mathlib.Omega.{arith}
 use borrow.Author.Needs.{needs}
 use Rattle.arith.proofs.checks.list_size.Statement.{statement}
 use Rattle.arith.proofs.checks.list_size.Tie as tie
 
 pub list-size-spec : {M : Type 1} → statement M
-unfolding checked listSizeOf
+unfolding listSizeOf
 list-size-spec = tie.close (tie.spec
     (λ c. simp (ne-eqb _ _ (c .if1 .taken)))  -- returns
     (λ c. simp (eq-eqb _ _ (c .before .if1 .left), lt-leb _ _ (c .if2 .taken)))  -- returns-2

@@ -1,13 +1,13 @@
 -- `arith::checks::width` meets its contract: each answer by the tests that led to it.
 use borrow.Author.Tests.{lt-leb, le-leb}
-use Rattle.arith.specs.Refusals.{checked, widthOf}
+use Rattle.arith.specs.Refusals.{widthOf}
 use native.Mathlib.Omega.{arith}
 use borrow.Author.Needs.{needs}
 use Rattle.arith.proofs.checks.width.Statement.{statement}
 use Rattle.arith.proofs.checks.width.Tie as tie
 
 pub width-spec : {M : Type 1} → statement M
-unfolding checked widthOf
+unfolding widthOf
 width-spec = tie.close (tie.spec
     (λ c. simp (lt-leb _ _ (c .if1 .taken)))  -- returns
     (λ c. simp (le-leb _ _ (c .before .if1 .left), lt-leb _ _ (c .if2 .taken)))  -- returns-2

@@ -5,7 +5,7 @@ use Prim.Native.Nat.{ℕ, _-_, _/_, _≤_}
 use lib.ListN.{length}
 use borrow.Author.Tests.{not-true, not-false}
 use Rattle.arith.specs.Bytes.{tab}
-use Rattle.arith.specs.Refusals.{checked, rowOf}
+use Rattle.arith.specs.Refusals.{rowOf}
 use Rattle.gates.specs.Written.{WrittenRow, legalRow, allLegalRows, rowAt}
 use Rattle.gates.proofs.Written.{all-legal-none, all-legal-more, all-legal-stop}
 use native.Mathlib.Omega.{arith}
@@ -24,7 +24,7 @@ abbrev μ-loop : tie.MeasureT-loop
 μ-loop list d n rows r₀ r = rows - r
 
 pub list-legal-spec : {M : Type 1} → statement M
-unfolding checked rowOf
+unfolding rowOf
 list-legal-spec = tie.close (tie.spec Inv-loop μ-loop
     (λ c. (omega arith, all-legal-none _ _ _))  -- loop-holds
     (λ c κs. search needs)  -- read-row-requires

@@ -1,7 +1,7 @@
 -- `pauli::arrays::bounds` meets its contract. The invariant: the largest so far is out of range where one of those passed is.
-use mathlib.Core.Path.{_≡_, ap, _∙_}
+use mathlib.Core.Path.{_≡_, _∙_}
 use Prim.Native.Nat.{_-_, _≤_}
-use Rattle.arith.specs.Refusals.{checked, orElse, rangeOf}
+use Rattle.arith.specs.Refusals.{orElse, rangeOf}
 use Rattle.pauli.specs.Range.{boundsOf}
 use Rattle.pauli.specs.View.{at, entries}
 use Rattle.pauli.proofs.RangeChecks.{bounds-none, bounds-more}
@@ -20,7 +20,7 @@ returns : tie.Need-returns Inv-loop μ-loop
 returns c =
     let l = c .before .before .loop in
     let e : l .i ≡ c .before .before .before .args .n = omega arith in
-    c .range .ensures ∙ ap checked (rw e at (l .inv .1))
+    c .range .ensures ∙ (rw e at (l .inv .1))
 
 pub bounds-spec : {M : Type 1} → statement M
 bounds-spec = tie.close (tie.spec Inv-loop μ-loop

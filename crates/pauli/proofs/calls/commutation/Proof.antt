@@ -1,7 +1,7 @@
 -- `pauli::calls::commutation` meets its contract: refused by the check of 1 to 3 or by that of 5, else the method's promise.
 use mathlib.Core.Path.{_≡_, refl, _∙_, ap₂}
 use lib.ListN.{length}
-use Rattle.arith.specs.Refusals.{checked}
+use Rattle.arith.specs.Refusals.{numberOf}
 use Rattle.arith.proofs.Refusals.{good, stop-last, stop-answered, answered}
 use Rattle.pauli.specs.Pauli.{comm}
 use Rattle.pauli.specs.Bytes.{decode}
@@ -16,7 +16,7 @@ passed : (c : tie.After-enum-told) → let a = c .before .before .before .before
 passed c = good _ (c .before .before .commutation-check .ensures) (c .enum-told .given .1)
 
 -- what the check of 5 finds
-ranged : (c : tie.After-pair-range) → let a = c .before .before .before .before .before .before .before .before .args in c .pair-range .result ≡ checked (pairRangeOf (a .d) (decode (a .n) (a .p .now)) (decode (a .n) (a .q .now)))
+ranged : (c : tie.After-pair-range) → let a = c .before .before .before .before .before .before .before .before .args in numberOf (c .pair-range .result) ≡ pairRangeOf (a .d) (decode (a .n) (a .p .now)) (decode (a .n) (a .q .now))
 ranged c = rw (c .before .before .read .ensures, c .before .read2 .ensures) at (c .pair-range .ensures)
 
 returns : tie.Need-returns

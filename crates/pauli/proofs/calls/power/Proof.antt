@@ -1,7 +1,7 @@
 -- `pauli::calls::power` meets its contract: refused by the check of 1 to 4 or by that of 5, else the power at the front of the output.
 use mathlib.Core.Path.{_≡_, refl, _∙_, ap}
 use lib.ListN.{length}
-use Rattle.arith.specs.Refusals.{checked}
+use Rattle.arith.specs.Refusals.{numberOf}
 use Rattle.arith.proofs.Refusals.{good, stop-last, stop-written, written}
 use Rattle.pauli.specs.Pauli.{Pauli, power}
 use Rattle.pauli.specs.Bytes.{decode}
@@ -17,7 +17,7 @@ passed : (c : tie.After-enum-told) → let a = c .before .before .before .before
 passed c = good _ (c .before .before .power-check .ensures) (c .enum-told .given .1)
 
 -- what the check of 5 finds
-ranged : (c : tie.After-range) → let a = c .before .before .before .before .before .before .before .args in c .range .result ≡ checked (pauliRangeOf (a .d) (decode (a .n) (a .p .now)))
+ranged : (c : tie.After-range) → let a = c .before .before .before .before .before .before .before .args in numberOf (c .range .result) ≡ pauliRangeOf (a .d) (decode (a .n) (a .p .now))
 ranged c = rw (c .before .read .ensures) at (c .range .ensures)
 
 returns : tie.Need-returns

@@ -3,7 +3,7 @@ use mathlib.Core.Path.{_≡_, refl, sym, ap, _∙_}
 use mathlib.Core.List.{List, map}
 use lib.ListN.{length}
 use Rattle.arith.specs.Bytes.{front}
-use Rattle.arith.specs.Refusals.{checked}
+use Rattle.arith.specs.Refusals.{numberOf}
 use Rattle.arith.proofs.Refusals.{good, stop-first, stop-second, orElse-none, orElse-skip}
 use Rattle.pauli.specs.Pauli.{Pauli}
 use Rattle.gates.specs.Written.{written, encodeRows}
@@ -23,10 +23,10 @@ use Rattle.synthesis.proofs.calls.synthesis.Statement.{statement}
 use Rattle.synthesis.proofs.calls.synthesis.Tie as tie
 
 -- the tests are of the tableau that the bytes hold
-found : (c : tie.After-tests) → let a = c .before .before .before .before .before .before .before .before .before .args in c .tests .result ≡ checked (testsOf (a .d) (a .n) (decodeTableau (a .n) (a .tableau .now)))
+found : (c : tie.After-tests) → let a = c .before .before .before .before .before .before .before .before .before .args in numberOf (c .tests .result) ≡ testsOf (a .d) (a .n) (decodeTableau (a .n) (a .tableau .now))
 found c =
     let a = c .before .before .before .before .before .before .before .before .before .args in
-    c .tests .ensures ∙ ap (λ (t : List Pauli). checked (testsOf (a .d) (a .n) t)) (c .before .before .read-into .ensures .0)
+    c .tests .ensures ∙ ap (testsOf (a .d) (a .n)) (c .before .before .read-into .ensures .0)
 
 -- past the lengths and the tests nothing is refused
 passed : (c : tie.After-enum-told3) → let a = c .before .before .before .before .before .before .before .before .before .before .before .args in synthesisRefusal (a .d) (a .n) (a .tableau .now) (length (a .out .now)) ≡ 0

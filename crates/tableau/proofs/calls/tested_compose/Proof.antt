@@ -2,7 +2,7 @@
 use mathlib.Core.Path.{_≡_, refl, ap₂, _∙_}
 use mathlib.Core.List.{List}
 use Rattle.arith.specs.Bytes.{front}
-use Rattle.arith.specs.Refusals.{checked}
+use Rattle.arith.specs.Refusals.{numberOf}
 use Rattle.arith.proofs.Refusals.{good, stop-last, stop-written, written, orElse-none}
 use Rattle.pauli.specs.Pauli.{Pauli}
 use Rattle.tableau.specs.Tableau.{compose}
@@ -14,10 +14,10 @@ use borrow.Author.Needs.{needs}
 use Rattle.tableau.proofs.calls.tested_compose.Statement.{statement}
 use Rattle.tableau.proofs.calls.tested_compose.Tie as tie
 
-found : (c : tie.After-compose-tests) → let a = c .before .before .before .before .before .before .before .before .before .before .args in c .compose-tests .result ≡ checked (composeTests (a .d) (a .n) (decodeTableau (a .n) (a .first .now)) (decodeTableau (a .n) (a .second .now)))
+found : (c : tie.After-compose-tests) → let a = c .before .before .before .before .before .before .before .before .before .before .args in numberOf (c .compose-tests .result) ≡ composeTests (a .d) (a .n) (decodeTableau (a .n) (a .first .now)) (decodeTableau (a .n) (a .second .now))
 found c =
     let a = c .before .before .before .before .before .before .before .before .before .before .args in
-    c .compose-tests .ensures ∙ ap₂ (λ (t u : List Pauli). checked (composeTests (a .d) (a .n) t u)) (c .before .before .before .before .before .read-into .ensures .0) (c .before .before .before .read-into2 .ensures .0)
+    c .compose-tests .ensures ∙ ap₂ (composeTests (a .d) (a .n)) (c .before .before .before .before .before .read-into .ensures .0) (c .before .before .before .read-into2 .ensures .0)
 
 returns : tie.Need-returns
 returns c = stop-written _ _ (stop-last _ (found (c .before .before .before)) (c .before .enum-told2 .given .1)) (c .number .ensures)

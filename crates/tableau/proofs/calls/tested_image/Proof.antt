@@ -1,9 +1,7 @@
 -- `tableau::calls::tested_image` meets its contract: the tests and the image are of the tableau that the bytes hold.
 use mathlib.Core.Path.{_≡_, refl, ap₂, _∙_}
-use mathlib.Core.List.{List}
-use Rattle.arith.specs.Refusals.{checked}
+use Rattle.arith.specs.Refusals.{numberOf}
 use Rattle.arith.proofs.Refusals.{good, stop-last, stop-written, written, orElse-none}
-use Rattle.pauli.specs.Pauli.{Pauli}
 use Rattle.pauli.specs.Bytes.{decode}
 use Rattle.pauli.proofs.Encoding.{write-answer}
 use Rattle.tableau.specs.Tableau.{image}
@@ -16,10 +14,10 @@ use borrow.Author.Needs.{needs}
 use Rattle.tableau.proofs.calls.tested_image.Statement.{statement}
 use Rattle.tableau.proofs.calls.tested_image.Tie as tie
 
-found : (c : tie.After-image-tests) → let a = c .before .before .before .before .before .before .before .before .args in c .image-tests .result ≡ checked (imageTests (a .d) (a .n) (decodeTableau (a .n) (a .tableau .now)) (decode (a .n) (a .p .now)))
+found : (c : tie.After-image-tests) → let a = c .before .before .before .before .before .before .before .before .args in numberOf (c .image-tests .result) ≡ imageTests (a .d) (a .n) (decodeTableau (a .n) (a .tableau .now)) (decode (a .n) (a .p .now))
 found c =
     let a = c .before .before .before .before .before .before .before .before .args in
-    c .image-tests .ensures ∙ ap₂ (λ (t : List Pauli) (p : Pauli). checked (imageTests (a .d) (a .n) t p)) (c .before .before .before .read-into .ensures .0) (c .before .before .read .ensures)
+    c .image-tests .ensures ∙ ap₂ (imageTests (a .d) (a .n)) (c .before .before .before .read-into .ensures .0) (c .before .before .read .ensures)
 
 returns : tie.Need-returns
 returns c = stop-written _ _ (stop-last _ (found (c .before .before .before)) (c .before .enum-told2 .given .1)) (c .number .ensures)

@@ -2,7 +2,7 @@
 use mathlib.Core.Path.{_≡_, refl, ap, _∙_}
 use mathlib.Core.List.{List}
 use Rattle.arith.specs.Bytes.{front}
-use Rattle.arith.specs.Refusals.{checked}
+use Rattle.arith.specs.Refusals.{numberOf}
 use Rattle.arith.proofs.Refusals.{good, stop-last, stop-written, written, orElse-none}
 use Rattle.pauli.specs.Pauli.{Pauli}
 use Rattle.tableau.specs.Inverse.{inverse}
@@ -15,10 +15,10 @@ use borrow.Author.Needs.{needs}
 use Rattle.tableau.proofs.calls.tested_inverse.Statement.{statement}
 use Rattle.tableau.proofs.calls.tested_inverse.Tie as tie
 
-found : (c : tie.After-tests) → let a = c .before .before .before .before .before .before .args in c .tests .result ≡ checked (testsOf (a .d) (a .n) (decodeTableau (a .n) (a .tableau .now)))
+found : (c : tie.After-tests) → let a = c .before .before .before .before .before .before .args in numberOf (c .tests .result) ≡ testsOf (a .d) (a .n) (decodeTableau (a .n) (a .tableau .now))
 found c =
     let a = c .before .before .before .before .before .before .args in
-    c .tests .ensures ∙ ap (λ (t : List Pauli). checked (testsOf (a .d) (a .n) t)) (c .before .before .read-into .ensures .0)
+    c .tests .ensures ∙ ap (testsOf (a .d) (a .n)) (c .before .before .read-into .ensures .0)
 
 returns : tie.Need-returns
 returns c = stop-written _ _ (stop-last _ (found (c .before .before .before)) (c .before .enum-told2 .given .1)) (c .number .ensures)

@@ -1,9 +1,8 @@
 -- `tableau::checks::pairing` meets its contract. The invariant: the tests of the columns from j on decide.
-use mathlib.Core.Bool.{Bool}
 use mathlib.Core.Path.{_≡_, sym, ap, _∙_}
 use Prim.Native.Nat.{_*_, _-_, _≤_}
 use Rattle.arith.proofs.Refusals.{good, pairing-good}
-use Rattle.arith.specs.Refusals.{checked, pairingOf}
+use Rattle.arith.specs.Refusals.{pairingOf}
 use Rattle.tableau.specs.Tableau.{upFrom}
 use Rattle.tableau.specs.View.{tableView}
 use Rattle.tableau.specs.Soundness.{all, laterPass, pairingHolds}
@@ -27,7 +26,7 @@ loop-holds c =
 returns : tie.Need-returns Inv-loop μ-loop
 returns c =
     let f = pairing-failed _ (c .before .before .later-pairs .ensures) (c .enum-told2 .given .1) in
-    c .before .before .later-pairs .ensures ∙ ap (λ (b : Bool). checked (pairingOf b)) (f ∙ sym (c .before .before .before .before .loop .inv .1 ∙ all-fail _ _ _ (c .before .before .before .loop-test .taken) f))
+    c .before .before .later-pairs .ensures ∙ ap pairingOf (f ∙ sym (c .before .before .before .before .loop .inv .1 ∙ all-fail _ _ _ (c .before .before .before .loop-test .taken) f))
 
 loop-again : tie.Need-loop-again Inv-loop μ-loop
 loop-again c = (omega arith, c .before .before .before .before .loop .inv .1 ∙ all-pass _ _ _ (c .before .before .before .loop-test .taken) (pairing-good _ (good _ (c .before .before .later-pairs .ensures) (c .enum-told .given .1))))
