@@ -14,11 +14,7 @@ use Rattle.arith.proofs.Passes.{range-passes, both-pass}
 use Rattle.pauli.specs.Pauli.{Pauli, Below, none, more, InRange}
 use Rattle.pauli.specs.Range.{boundsOf, pauliRangeOf}
 
--- ---- a number in range, and one that isn't
-range-in : {d x : ℕ} → x < d → rangeOf d x ≡ 0
-unfolding rangeOf
-range-in {d} {x} h = ltb-case (λ b. unlessHolds Range b ≡ 0) x d (λ l. refl) (λ l. absurd (omega arith))
-
+-- ---- a number that isn't in range
 range-out : {d x : ℕ} → d ≤ x → rangeOf d x ≡ 5
 unfolding rangeOf
 range-out {d} {x} h = ltb-case (λ b. unlessHolds Range b ≡ 5) x d (λ l. absurd (omega arith)) (λ l. refl)
@@ -26,18 +22,18 @@ range-out {d} {x} h = ltb-case (λ b. unlessHolds Range b ≡ 5) x d (λ l. absu
 -- the larger of two is the second, or the first
 pub second-larger : (d x y : ℕ) → x < y → rangeOf d y ≡ orElse (rangeOf d x) (rangeOf d y)
 second-larger d x y h = by-less x d
-    (λ l. rw (range-in l))
+    (λ l. rw (range-passes l))
     (λ l. rw (range-out l, range-out {d = d} {x = y} (omega arith)))
 
 pub first-larger : (d x y : ℕ) → y ≤ x → rangeOf d x ≡ orElse (rangeOf d x) (rangeOf d y)
 first-larger d x y h = by-less x d
-    (λ l. rw (range-in l, range-in {d = d} {x = y} (omega arith)))
+    (λ l. rw (range-passes l, range-passes {bound = d} {x = y} (omega arith)))
     (λ l. rw (range-out l))
 
 -- ---- a loop over two tables: no number yet, and one more of each
 pub bounds-none : (d : ℕ) (f g : ℕ → ℕ) → 0 < d → rangeOf d 0 ≡ orElse (boundsOf d (tab f 0)) (boundsOf d (tab g 0))
 unfolding tab boundsOf
-bounds-none d f g h = range-in h
+bounds-none d f g h = range-passes h
 
 last : (d : ℕ) (f : ℕ → ℕ) (i : ℕ) → boundsOf d (tab f (suc i)) ≡ orElse (boundsOf d (tab f i)) (rangeOf d (f i))
 unfolding tab boundsOf
@@ -52,7 +48,7 @@ last d f (suc i) =
 
 -- each is 0 or 5
 range-five : (d x : ℕ) → orElse (rangeOf d x) 5 ≡ 5
-range-five d x = by-less x d (λ l. rw (range-in l)) (λ l. rw (range-out l))
+range-five d x = by-less x d (λ l. rw (range-passes l)) (λ l. rw (range-out l))
 
 bounds-five : (d : ℕ) (xs : List ℕ) → orElse (boundsOf d xs) 5 ≡ 5
 unfolding boundsOf
