@@ -1,4 +1,5 @@
 // Gate rows: which are legal, what each does to a Pauli, and lists of them.
+use arith::residue::Power;
 use arith::residue::Residue;
 use pauli::Pauli;
 use pauli::touched::Touched;
@@ -165,7 +166,7 @@ impl Ready {
     {
         let row = self.row;
         let kind = row.kind;
-        let k = row.power;
+        let k = Power(row.power);
         match kind {
             1 => t.effect_f(k, d),
             2 => t.effect_s(k, d),
@@ -186,7 +187,7 @@ impl Ready {
         let row = self.row;
         let kind = row.kind;
         let i = row.first - 1;
-        let k = row.power;
+        let k = Power(row.power);
         match kind {
             1 => p.effect_f(i, k, d),
             2 => p.effect_s(i, k, d),

@@ -1,8 +1,7 @@
 -- The numbers that the code of a gate row computes in reduced steps. Assumes nothing.
-use mathlib.Core.Path.{_≡_, _∙_, ap}
+use mathlib.Core.Path.{_≡_}
 use mathlib.Core.List.{[], _∷_}
 use Prim.Native.Nat.{ℕ, _+_, _*_, _%_, _≤_, _<_}
-use native.Mathlib.Nat.{mul-comm}
 use native.Mathlib.Omega.{arith}
 use Rattle.arith.specs.Residues.{neg}
 use Rattle.arith.proofs.Cong.{Cong}
@@ -13,24 +12,20 @@ module _ (d k : ℕ) (large : 2 ≤ d) where
   pos : 0 < d
   pos = omega arith
 
-  pub z-phase : (δ x : ℕ) → Cong (2 * d) (δ + 2 * (x * k % d) % (2 * d)) (δ + 2 * (k * x))
+  pub z-phase : (δ x : ℕ) → Cong (2 * d) (δ + 2 * (k * x % d) % (2 * d)) (δ + 2 * (k * x))
   z-phase δ x = ring₂ d (k ∷ δ ∷ x ∷ []) pos (search quote depth 30) (search quote depth 30) tt
 
-  pub x-phase : (δ x : ℕ) → Cong (2 * d) (δ + neg (2 * d) (2 * (x * k % d) % (2 * d))) (δ + neg (2 * d) (2 * (k * x)))
+  pub x-phase : (δ x : ℕ) → Cong (2 * d) (δ + neg (2 * d) (2 * (k * x % d) % (2 * d))) (δ + neg (2 * d) (2 * (k * x)))
   x-phase δ x = ring₂ d (k ∷ δ ∷ x ∷ []) pos (search quote depth 30) (search quote depth 30) tt
 
   pub s-phase : (δ x : ℕ) → Cong (2 * d) (δ + k * (x * (x + d) % (2 * d)) % (2 * d)) (δ + k * (x * (x + d)))
   s-phase δ x = ring₂ d (k ∷ δ ∷ x ∷ []) pos (search quote depth 30) (search quote depth 30) tt
 
-  pub plus-entry : (y x : ℕ) → Cong d (y + x * k % d) (y + k * x)
+  pub plus-entry : (y x : ℕ) → Cong d (y + k * x % d) (y + k * x)
   plus-entry y x = ring₁ d (k ∷ y ∷ x ∷ []) pos (search quote depth 30) (search quote depth 30) tt
 
-  pub minus-entry : (y x : ℕ) → Cong d (y + neg d (x * k % d)) (y + neg d (k * x))
+  pub minus-entry : (y x : ℕ) → Cong d (y + neg d (k * x % d)) (y + neg d (k * x))
   minus-entry y x = ring₁ d (k ∷ y ∷ x ∷ []) pos (search quote depth 30) (search quote depth 30) tt
-
--- q times an entry, where the code has k for q on the right
-pub times-entry : (d x : ℕ) {k q : ℕ} → k ≡ q → x * k % d ≡ q * x % d
-times-entry d x {k} e = ap (λ (y : ℕ). y % d) (mul-comm x k ∙ ap (λ (y : ℕ). y * x) e)
 
 -- the difference of two reduced sums is that of the sums
 reduced-difference : (d x y : ℕ) → 0 < d → Cong d (x % d + neg d (y % d)) (x + neg d y)

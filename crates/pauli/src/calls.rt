@@ -2,6 +2,7 @@
 use crate::Pauli;
 use arith::checks::Answer;
 use arith::checks::Check;
+use arith::residue::Power;
 ghost use mathlib.Core.Path.{_≡_};
 ghost use lib.ListN.{length};
 ghost use Rattle.arith.specs.Refusals.{numberOf, orElse, givenOf, sizeOf, roomOf};
@@ -88,7 +89,7 @@ pub fn power(d: u16, n: u16, p: &[u8], k: u16, out: &mut [u8]) -> u16
     let Check::Good = ranged else {
         return arith::checks::number(ranged);
     };
-    base.power(k, d, m).write(out, 0, m);
+    base.power(Power(k), d, m).write(out, 0, m);
     0
 }
 

@@ -3,6 +3,7 @@
 use crate::Pauli;
 use crate::touched::Touched;
 use arith::residue::Phase;
+use arith::residue::Power;
 use arith::residue::Residue;
 ghost use mathlib.Core.Path.{_≡_};
 ghost use mathlib.Core.Bool.{cond};
@@ -75,27 +76,27 @@ impl Pauli {
     }
 
     // F: k times δ − 2·vi·wi, then vi, wi become −wi, vi.
-    pub fn effect_f(self, i: u16, k: u16, d: u16) -> Pauli
+    pub fn effect_f(self, i: u16, k: Power, d: u16) -> Pauli
         requires { ⌜ Dimension d × (i < 16) ⌝ }
-        ensures { λ r. ⌜ ((n : ℕ) → i < n → n ≤ 16 → view n r ≡ effectF d i k (view n self)) ⌝ }
+        ensures { λ r. ⌜ ((n : ℕ) → i < n → n ≤ 16 → view n r ≡ effectF d i (k .0) (view n self)) ⌝ }
     {
         let t = self.touched(i, i).effect_f(k, d);
         self.placed(i, t.phase, t.vi, t.wi)
     }
 
     // S: δ + k·vi·(vi + d), wi + k·vi.
-    pub fn effect_s(self, i: u16, k: u16, d: u16) -> Pauli
+    pub fn effect_s(self, i: u16, k: Power, d: u16) -> Pauli
         requires { ⌜ Dimension d × (i < 16) ⌝ }
-        ensures { λ r. ⌜ ((n : ℕ) → i < n → n ≤ 16 → view n r ≡ effectS d i k (view n self)) ⌝ }
+        ensures { λ r. ⌜ ((n : ℕ) → i < n → n ≤ 16 → view n r ≡ effectS d i (k .0) (view n self)) ⌝ }
     {
         let t = self.touched(i, i).effect_s(k, d);
         self.placed(i, t.phase, t.vi, t.wi)
     }
 
     // A: vj + k·vi, wi − k·wj.
-    pub fn effect_a(self, i: u16, j: u16, k: u16, d: u16) -> Pauli
+    pub fn effect_a(self, i: u16, j: u16, k: Power, d: u16) -> Pauli
         requires { ⌜ Dimension d × ((i < 16) × ((j < 16) × (i ≢ j))) ⌝ }
-        ensures { λ r. ⌜ ((n : ℕ) → i < n → j < n → n ≤ 16 → view n r ≡ effectA d i j k (view n self)) ⌝ }
+        ensures { λ r. ⌜ ((n : ℕ) → i < n → j < n → n ≤ 16 → view n r ≡ effectA d i j (k .0) (view n self)) ⌝ }
     {
         let t = self.touched(i, j).effect_a(k, d);
         self.placed(i, t.phase, t.vi, t.wi)
@@ -103,28 +104,28 @@ impl Pauli {
     }
 
     // M: vi becomes k·vi, wi becomes k'·wi, with the inverse k' given.
-    pub fn effect_m(self, i: u16, k: u16, inverse: Residue, d: u16) -> Pauli
+    pub fn effect_m(self, i: u16, k: Power, inverse: Residue, d: u16) -> Pauli
         requires { ⌜ Dimension d × (i < 16) ⌝ }
-        requires { ⌜ inverse .0 ≡ inverseOf d k ⌝ }
-        ensures { λ r. ⌜ ((n : ℕ) → i < n → n ≤ 16 → view n r ≡ effectM d i k (view n self)) ⌝ }
+        requires { ⌜ inverse .0 ≡ inverseOf d (k .0) ⌝ }
+        ensures { λ r. ⌜ ((n : ℕ) → i < n → n ≤ 16 → view n r ≡ effectM d i (k .0) (view n self)) ⌝ }
     {
         let t = self.touched(i, i).effect_m(k, inverse, d);
         self.placed(i, t.phase, t.vi, t.wi)
     }
 
     // X: δ − 2·k·wi.
-    pub fn effect_x(self, i: u16, k: u16, d: u16) -> Pauli
+    pub fn effect_x(self, i: u16, k: Power, d: u16) -> Pauli
         requires { ⌜ Dimension d × (i < 16) ⌝ }
-        ensures { λ r. ⌜ ((n : ℕ) → i < n → n ≤ 16 → view n r ≡ effectX d i k (view n self)) ⌝ }
+        ensures { λ r. ⌜ ((n : ℕ) → i < n → n ≤ 16 → view n r ≡ effectX d i (k .0) (view n self)) ⌝ }
     {
         let t = self.touched(i, i).effect_x(k, d);
         self.placed(i, t.phase, t.vi, t.wi)
     }
 
     // Z: δ + 2·k·vi.
-    pub fn effect_z(self, i: u16, k: u16, d: u16) -> Pauli
+    pub fn effect_z(self, i: u16, k: Power, d: u16) -> Pauli
         requires { ⌜ Dimension d × (i < 16) ⌝ }
-        ensures { λ r. ⌜ ((n : ℕ) → i < n → n ≤ 16 → view n r ≡ effectZ d i k (view n self)) ⌝ }
+        ensures { λ r. ⌜ ((n : ℕ) → i < n → n ≤ 16 → view n r ≡ effectZ d i (k .0) (view n self)) ⌝ }
     {
         let t = self.touched(i, i).effect_z(k, d);
         self.placed(i, t.phase, t.vi, t.wi)

@@ -2,6 +2,7 @@
 use crate::Pauli;
 use arith::checks::Check;
 use arith::residue::Phase;
+use arith::residue::Power;
 use arith::residue::Residue;
 ghost use mathlib.Core.Path.{_≡_};
 ghost use Prim.Native.Nat.{ℕ, _*_, _-_, _%_, _≤_, _<_};
@@ -12,10 +13,10 @@ ghost use Rattle.pauli.specs.Range.{pauliRangeOf, pairRangeOf};
 ghost use Rattle.pauli.specs.View.{at, entries, view};
 
 // k·(k − 1): the pairs of two of k copies, each pair in both orders. An even number.
-fn ordered_pairs(k: u16) -> u64
-    ensures { λ r. ⌜ (r ≡ k * (k - 1)) × (r < 4294967296) ⌝ }
+fn ordered_pairs(k: Power) -> u64
+    ensures { λ r. ⌜ (r ≡ k .0 * (k .0 - 1)) × (r < 4294967296) ⌝ }
 {
-    let copies = k as u64;
+    let copies = k.0 as u64;
     copies * copies - copies
 }
 
@@ -79,18 +80,19 @@ impl Pauli {
     }
 
     // The multiples k·v and k·w modulo d, under another phase; in one loop as above.
-    fn scaled(self, k: u16, phase: Phase, d: u16, n: usize) -> Pauli
+    fn scaled(self, k: Power, phase: Phase, d: u16, n: usize) -> Pauli
         requires { ⌜ Dimension d × (n ≤ 16) ⌝ }
-        ensures { λ r. ⌜ view n r ≡ record { phase = phase .0; v = tab (λ i. k * at (self .v) i % d) n; w = tab (λ i. k * at (self .w) i % d) n } ⌝ }
+        ensures { λ r. ⌜ view n r ≡ record { phase = phase .0; v = tab (λ i. k .0 * at (self .v) i % d) n; w = tab (λ i. k .0 * at (self .w) i % d) n } ⌝ }
     {
         let v = self.v;
         let w = self.w;
-        let factor = Residue(k);
         let mut kv = [Residue(0); 16];
         let mut kw = [Residue(0); 16];
         for i in 0..n {
-            kv[i] = factor.times(v[i], d);
-            kw[i] = factor.times(w[i], d);
+            let x = v[i];
+            let z = w[i];
+            kv[i] = x.scaled(k, d);
+            kw[i] = z.scaled(k, d);
         }
         Pauli {
             phase: phase,
@@ -114,17 +116,17 @@ impl Pauli {
     }
 
     // The product of k copies, at once: phase k·δ + k·(k − 1)·(w·v), entries k·v and k·w. As k·(k − 1) is even, w·v may be reduced modulo d there.
-    pub fn power(self, k: u16, d: u16, n: usize) -> Pauli
+    pub fn power(self, k: Power, d: u16, n: usize) -> Pauli
         requires { ⌜ Dimension d × (n ≤ 16) ⌝ }
         requires { ⌜ InRange d n (view n self) ⌝ }
-        ensures { λ r. ⌜ view n r ≡ power d n (view n self) k ⌝ }
+        ensures { λ r. ⌜ view n r ≡ power d n (view n self) (k .0) ⌝ }
     {
         let v = self.v;
         let w = self.w;
         let twist = Residue::reduced(crate::arrays::sum_of_products(w, v, n), d);
         let delta = self.phase;
         let phase = Phase::reduced(
-            ordered_pairs(k) * (twist.0 as u64) + (k as u64) * (delta.0 as u64),
+            ordered_pairs(k) * (twist.0 as u64) + (k.0 as u64) * (delta.0 as u64),
             d,
         );
         self.scaled(k, phase, d, n)

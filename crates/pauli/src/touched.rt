@@ -1,6 +1,7 @@
 // The effect of each kind of gate row on the numbers that it touches: the phase, and v and w at its qudits i and j.
 // A kind on one qudit takes j as i, and makes the same of both.
 use arith::residue::Phase;
+use arith::residue::Power;
 use arith::residue::Residue;
 ghost use mathlib.Core.Path.{_≡_};
 ghost use Rattle.arith.specs.Refusals.{Dimension};
@@ -38,38 +39,39 @@ impl Touched {
         let phase = self.phase;
         let x = self.vi;
         let z = self.wi;
-        let moved = z.times(x, d).doubled(d);
+        let moved = x.times(z, d).doubled(d);
         on_one(phase.minus(moved, d), z.negative(d), x)
     }
 
     // F: k times.
-    pub fn effect_f(self, k: u16, d: u16) -> Touched
+    pub fn effect_f(self, k: Power, d: u16) -> Touched
         requires { ⌜ Dimension d ⌝ }
-        ensures { λ r. ⌜ OnOne (λ i p. effectF d i k p) (viewTouched self) (viewTouched r) ⌝ }
+        ensures { λ r. ⌜ OnOne (λ i p. effectF d i (k .0) p) (viewTouched self) (viewTouched r) ⌝ }
     {
+        let times = k.0;
         let mut t = self;
-        for _ in 0..k {
+        for _ in 0..times {
             t = t.fourier(d);
         }
         t
     }
 
     // S: δ + k·vi·(vi + d), wi + k·vi.
-    pub fn effect_s(self, k: u16, d: u16) -> Touched
+    pub fn effect_s(self, k: Power, d: u16) -> Touched
         requires { ⌜ Dimension d ⌝ }
-        ensures { λ r. ⌜ OnOne (λ i p. effectS d i k p) (viewTouched self) (viewTouched r) ⌝ }
+        ensures { λ r. ⌜ OnOne (λ i p. effectS d i (k .0) p) (viewTouched self) (viewTouched r) ⌝ }
     {
         let phase = self.phase;
         let x = self.vi;
         let z = self.wi;
         let moved = x.squared(d).times(k, d);
-        on_one(phase.plus(moved, d), x, z.plus(x.times(Residue(k), d), d))
+        on_one(phase.plus(moved, d), x, z.plus(x.scaled(k, d), d))
     }
 
     // A: vj + k·vi, wi − k·wj.
-    pub fn effect_a(self, k: u16, d: u16) -> Touched
+    pub fn effect_a(self, k: Power, d: u16) -> Touched
         requires { ⌜ Dimension d ⌝ }
-        ensures { λ r. ⌜ OnTwo (λ i j p. effectA d i j k p) (viewTouched self) (viewTouched r) ⌝ }
+        ensures { λ r. ⌜ OnTwo (λ i j p. effectA d i j (k .0) p) (viewTouched self) (viewTouched r) ⌝ }
     {
         let phase = self.phase;
         let x = self.vi;
@@ -79,45 +81,45 @@ impl Touched {
         Touched {
             phase: phase,
             vi: x,
-            wi: z.minus(u.times(Residue(k), d), d),
-            vj: y.plus(x.times(Residue(k), d), d),
+            wi: z.minus(u.scaled(k, d), d),
+            vj: y.plus(x.scaled(k, d), d),
             wj: u,
         }
     }
 
     // M: vi becomes k·vi, wi becomes k'·wi, with the inverse k' given.
-    pub fn effect_m(self, k: u16, inverse: Residue, d: u16) -> Touched
+    pub fn effect_m(self, k: Power, inverse: Residue, d: u16) -> Touched
         requires { ⌜ Dimension d ⌝ }
-        requires { ⌜ inverse .0 ≡ inverseOf d k ⌝ }
-        ensures { λ r. ⌜ OnOne (λ i p. effectM d i k p) (viewTouched self) (viewTouched r) ⌝ }
+        requires { ⌜ inverse .0 ≡ inverseOf d (k .0) ⌝ }
+        ensures { λ r. ⌜ OnOne (λ i p. effectM d i (k .0) p) (viewTouched self) (viewTouched r) ⌝ }
     {
         let phase = self.phase;
         let x = self.vi;
         let z = self.wi;
-        on_one(phase, x.times(Residue(k), d), z.times(inverse, d))
+        on_one(phase, x.scaled(k, d), inverse.times(z, d))
     }
 
     // X: δ − 2·k·wi.
-    pub fn effect_x(self, k: u16, d: u16) -> Touched
+    pub fn effect_x(self, k: Power, d: u16) -> Touched
         requires { ⌜ Dimension d ⌝ }
-        ensures { λ r. ⌜ OnOne (λ i p. effectX d i k p) (viewTouched self) (viewTouched r) ⌝ }
+        ensures { λ r. ⌜ OnOne (λ i p. effectX d i (k .0) p) (viewTouched self) (viewTouched r) ⌝ }
     {
         let phase = self.phase;
         let x = self.vi;
         let z = self.wi;
-        let moved = z.times(Residue(k), d).doubled(d);
+        let moved = z.scaled(k, d).doubled(d);
         on_one(phase.minus(moved, d), x, z)
     }
 
     // Z: δ + 2·k·vi.
-    pub fn effect_z(self, k: u16, d: u16) -> Touched
+    pub fn effect_z(self, k: Power, d: u16) -> Touched
         requires { ⌜ Dimension d ⌝ }
-        ensures { λ r. ⌜ OnOne (λ i p. effectZ d i k p) (viewTouched self) (viewTouched r) ⌝ }
+        ensures { λ r. ⌜ OnOne (λ i p. effectZ d i (k .0) p) (viewTouched self) (viewTouched r) ⌝ }
     {
         let phase = self.phase;
         let x = self.vi;
         let z = self.wi;
-        let moved = x.times(Residue(k), d).doubled(d);
+        let moved = x.scaled(k, d).doubled(d);
         on_one(phase.plus(moved, d), x, z)
     }
 

@@ -7,7 +7,7 @@ use tableau::table::w_at;
 ghost use mathlib.Core.Path.{_≡_};
 ghost use mathlib.Core.Bool.{cond};
 ghost use mathlib.Core.List.{List};
-ghost use Prim.Native.Nat.{ℕ, _*_, _%_, _≤_, _<_};
+ghost use Prim.Native.Nat.{ℕ, _*_, _≤_, _<_};
 ghost use lib.Dec.{ltb};
 ghost use Rattle.arith.specs.Units.{IsUnit};
 ghost use Rattle.arith.specs.Refusals.{Dimension};
@@ -33,14 +33,6 @@ pub enum Turn {
     Fourier(u16),
     PhaseZ,
     PhaseX,
-}
-
-// A number reduced modulo d.
-fn within(x: Residue, d: u16) -> Residue
-    requires { ⌜ Dimension d ⌝ }
-    ensures { λ r. ⌜ r .0 ≡ x .0 % d ⌝ }
-{
-    Residue::near(x.0 as u64, d)
 }
 
 // A row on qudit i, counted from 0.
@@ -127,11 +119,11 @@ pub fn next_row(t: &[[u16; 33]; 32], which: Turn, j: usize, q: usize, d: u16, n:
         ),
         Turn::Scale => by_m(q, arith::divisor::inverse(v_at(t, q, q), d)),
         Turn::ClearV => by_a(q, j, v_at(t, q, j).negative(d)),
-        Turn::ClearPartnerW => by_a(j, q, within(w_at(t, n + q, j), d)),
-        Turn::ClearPartnerV => by_a(q, j, within(v_at(t, n + q, j), d)),
+        Turn::ClearPartnerW => by_a(j, q, w_at(t, n + q, j).within(d)),
+        Turn::ClearPartnerV => by_a(q, j, v_at(t, n + q, j).within(d)),
         Turn::ShearPartner => by_s(q, w_at(t, n + q, q).0, d),
         Turn::Fourier(k) => on_one(1, q, k),
-        Turn::PhaseZ => on_one(6, q, Residue(phase_at(t, q) / 2).negative(d).0),
-        Turn::PhaseX => on_one(5, q, within(Residue(phase_at(t, n + q) / 2), d).0),
+        Turn::PhaseZ => on_one(6, q, phase_at(t, q).half(d).negative(d).0),
+        Turn::PhaseX => on_one(5, q, phase_at(t, n + q).half(d).0),
     }
 }

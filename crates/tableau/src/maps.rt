@@ -1,5 +1,6 @@
 // What a tableau does to a Pauli: the image, and the Pauli whose image is a given one.
 use arith::residue::Phase;
+use arith::residue::Power;
 use arith::residue::Residue;
 use pauli::Pauli;
 ghost use mathlib.Core.Path.{_≡_};
@@ -13,18 +14,18 @@ ghost use Rattle.tableau.specs.Inverse.{drawn, preimage};
 ghost use Rattle.tableau.specs.View.{tableView};
 
 // The power that column j gets in the image of p: v at j below n, w at j − n from n on.
-fn exponent(p: Pauli, j: usize, n: usize) -> u16
+fn exponent(p: Pauli, j: usize, n: usize) -> Power
     requires { ⌜ (n ≤ 16) × (j < 2 * n) ⌝ }
-    ensures { λ r. ⌜ r ≡ getD (entries n (p .v) ++ entries n (p .w)) j 0 ⌝ }
+    ensures { λ r. ⌜ r .0 ≡ getD (entries n (p .v) ++ entries n (p .w)) j 0 ⌝ }
 {
     if j < n {
         let v = p.v;
         let x = v[j];
-        return x.0;
+        return Power(x.0);
     }
     let w = p.w;
     let x = w[j - n];
-    x.0
+    Power(x.0)
 }
 
 // The image of p: its phase alone, times column 1 to the power v1, and so on to column 2n to the power wn.

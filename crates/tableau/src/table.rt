@@ -41,11 +41,11 @@ pub fn w_at(t: &[[u16; 33]; 32], c: usize, i: usize) -> Residue
 }
 
 // The phase of column c.
-pub fn phase_at(t: &[[u16; 33]; 32], c: usize) -> u16
+pub fn phase_at(t: &[[u16; 33]; 32], c: usize) -> Phase
     requires { ⌜ c < 32 ⌝ }
-    ensures { λ r. ⌜ ((n : ℕ) → c < 2 * n → r ≡ column n (tableView n (now (t .entry))) c .phase) ⌝ }
+    ensures { λ r. ⌜ ((n : ℕ) → c < 2 * n → r .0 ≡ column n (tableView n (now (t .entry))) c .phase) ⌝ }
 {
-    t[c][0]
+    Phase(t[c][0])
 }
 
 // ---- its columns

@@ -43,15 +43,16 @@ power-spec = tie.close (tie.spec
     (λ c. search needs)  -- cast-reduced
     (λ c. omega (arith, twists-below (c .before .ordered-pairs .result) (c .before .before .before .reduced .result .0) (c .before .ordered-pairs .ensures .1) (search needs)))  -- mul-reduced
     (λ c. search needs)  -- cast-reduced-2
-    (λ c. let a = c .before .before .before .before .before .before .before .before .args in
-    omega (arith, product-below (a .k) (a .self .phase .0) (search needs) (search needs)))  -- mul-reduced-2
-    (λ c. let a = c .before .before .before .before .before .before .before .before .args in
-    omega (arith, twists-below (c .before .before .ordered-pairs .result) (c .before .before .before .before .reduced .result .0) (c .before .before .ordered-pairs .ensures .1) (search needs), product-below (a .k) (a .self .phase .0) (search needs) (search needs)))  -- add-reduced
+    (λ c. search needs)  -- cast-reduced-3
+    (λ c. let a = c .before .before .before .before .before .before .before .before .before .args in
+    omega (arith, product-below (a .k .0) (a .self .phase .0) (search needs) (search needs)))  -- mul-reduced-2
+    (λ c. let a = c .before .before .before .before .before .before .before .before .before .args in
+    omega (arith, twists-below (c .before .before .before .ordered-pairs .result) (c .before .before .before .before .before .reduced .result .0) (c .before .before .before .ordered-pairs .ensures .1) (search needs), product-below (a .k .0) (a .self .phase .0) (search needs) (search needs)))  -- add-reduced
     (λ c κs. search needs)  -- reduced-requires-2
     (λ c κs. search needs)  -- scaled-requires
-    (λ c. let m = c .before .before .before .before .before .before in
+    (λ c. let m = c .before .before .before .before .before .before .before in
     let s = m .before .before .before .before in
     c .scaled .ensures
-    ∙ pauli-path (power-phase _ _ _ (omega arith) (c .before .reduced2 .ensures) (c .before .before .before .before .ordered-pairs .ensures .0) (m .reduced .ensures) (m .before .sum-of-products .ensures .0))
+    ∙ pauli-path (power-phase _ _ _ (omega arith) (c .before .reduced2 .ensures) (c .before .before .before .before .before .ordered-pairs .ensures .0) (m .reduced .ensures) (m .before .sum-of-products .ensures .0))
     (sym (scaled-tab _ _ _ _)) (sym (scaled-tab _ _ _ _))
-    ∙ sym (power-closed (s .args .d) (s .args .n) (s .args .k) (omega arith) (s .pre .1))))  -- returns
+    ∙ sym (power-closed (s .args .d) (s .args .n) (s .args .k .0) (omega arith) (s .pre .1))))  -- returns

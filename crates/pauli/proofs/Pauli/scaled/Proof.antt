@@ -10,10 +10,10 @@ use Rattle.pauli.proofs.Pauli.scaled.Statement.{statement}
 use Rattle.pauli.proofs.Pauli.scaled.Tie as tie
 
 abbrev Inv-loop : tie.InvT-loop
-Inv-loop k phase d n v w factor kv₀ kw₀ i₀ kv kw i = (i ≤ n) × Filled (λ j. k * at v j % d) (λ j. k * at w j % d) i kv kw
+Inv-loop k phase d n v w kv₀ kw₀ i₀ kv kw i = (i ≤ n) × Filled (λ j. k .0 * at v j % d) (λ j. k .0 * at w j % d) i kv kw
 
 abbrev μ-loop : tie.MeasureT-loop
-μ-loop k phase d n v w factor kv₀ kw₀ i₀ kv kw i = n - i
+μ-loop k phase d n v w kv₀ kw₀ i₀ kv kw i = n - i
 
 returns : tie.Need-returns Inv-loop μ-loop
 returns c =
@@ -24,18 +24,18 @@ returns c =
 pub scaled-spec : {M : Type 1} → statement M
 scaled-spec = tie.close (tie.spec Inv-loop μ-loop
     (λ c. (omega arith, filled-none _ _ refl refl))  -- loop-holds
-    (λ c. search needs)  -- mul-times
-    (λ c. search needs)  -- array-copy-out-times
-    (λ c κs. search needs)  -- times-requires
+    (λ c. search needs)  -- mul-x
+    (λ c. search needs)  -- array-copy-out-x
+    (λ c. search needs)  -- mul-z
+    (λ c. search needs)  -- array-copy-out-z
+    (λ c κs. search needs)  -- scaled-requires
     (λ c. search needs)  -- mul-kv
     (λ c. search needs)  -- array-set-from-kv
-    (λ c. search needs)  -- mul-times-2
-    (λ c. search needs)  -- array-copy-out-times-2
-    (λ c κs. search needs)  -- times-requires-2
+    (λ c κs. search needs)  -- scaled-requires-2
     (λ c. search needs)  -- mul-kw
     (λ c. search needs)  -- array-set-from-kw
     (λ c. search needs)  -- add-i
     (λ c. search needs)  -- loop-less
     (λ c. let l = c .before .before .before .before .before .loop in
-    (omega arith, filled-more _ _ (l .i) _ _ (omega arith) (c .before .before .times .ensures) (c .times2 .ensures) (l .inv .1)))  -- loop-again
+    (omega arith, filled-more _ _ (l .i) _ _ (omega arith) (c .before .scaled .ensures) (c .scaled2 .ensures) (l .inv .1)))  -- loop-again
     returns)

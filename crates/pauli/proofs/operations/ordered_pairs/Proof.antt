@@ -8,11 +8,12 @@ use Rattle.pauli.proofs.operations.ordered_pairs.Tie as tie
 
 returns : tie.Need-returns
 returns c =
-    let h = next-square (c .args .k) in
-    (omega (arith, h), omega (arith, product-below (c .args .k) (c .args .k) (search needs) (search needs)))
+    let h = next-square (c .before .args .k .0) in
+    (omega (arith, h), omega (arith, product-below (c .before .args .k .0) (c .before .args .k .0) (search needs) (search needs)))
 
 pub ordered-pairs-spec : {M : Type 1} → statement M
 ordered-pairs-spec = tie.close (tie.spec
-    (λ c. omega (arith, product-below (c .args .k) (c .args .k) (search needs) (search needs)))  -- mul-result
-    (λ c. omega (arith, next-square (c .args .k)))  -- sub-result
+    (λ c. search needs)  -- cast-copies
+    (λ c. omega (arith, product-below (c .before .args .k .0) (c .before .args .k .0) (search needs) (search needs)))  -- mul-result
+    (λ c. omega (arith, next-square (c .before .args .k .0)))  -- sub-result
     returns)

@@ -2,11 +2,12 @@
 use mathlib.Core.Path.{_≡_, ap, ap₂, _∙_}
 use mathlib.Core.Bool.{Bool, cond}
 use mathlib.Core.List.{List}
-use Prim.Native.Nat.{ℕ, _+_, _*_, _/_, _%_, _≤_, _<_}
-use native.Mathlib.Nat.{mod-lt}
+use Prim.Native.Nat.{ℕ, _+_, _*_, _-_, _/_, _%_, _≤_, _<_}
+use native.Mathlib.Nat.{mod-lt, mod-mod}
 use lib.ListN.{getD}
 use lib.Dec.{ltb}
 use Rattle.arith.proofs.Cases.{ltb-case}
+use Rattle.arith.specs.Residues.{neg}
 use Rattle.arith.specs.Units.{IsUnit, leastMultiplier, inverseOf}
 use Rattle.arith.proofs.Units.{least-below, inverse-below, inverse-unit}
 use Rattle.pauli.specs.Pauli.{Pauli}
@@ -26,6 +27,11 @@ inside x j n h k l = (omega arith, omega arith)
 -- one of the two powers of F
 one-or-three : (d x k : ℕ) → k ≡ cond (ltb d x) 1 3 → (1 ≤ k) × (k ≤ 3)
 one-or-three d x k e = rw e (ltb-case (λ (b : Bool). (1 ≤ cond b 1 3) × (cond b 1 3 ≤ 3)) d x (λ l. (omega arith, omega arith)) (λ l. (omega arith, omega arith)))
+
+-- the negative of a reduced number
+minus-reduced : (d x : ℕ) → minus d (x % d) ≡ minus d x
+unfolding neg
+minus-reduced d x = ap (λ (y : ℕ). (d - y) % d) (mod-mod x d)
 
 w-at-requires : tie.Need-w-at-requires
 w-at-requires c κs = let s = c .before .before .before in inside _ (s .args .j) (s .args .n) (s .pre .0 .1) (s .pre .1 .0 .1) (rw (c .before .which .given .1) at (s .pre .1 .1))
@@ -99,13 +105,14 @@ returns-10 c =
 
 returns-11 : tie.Need-returns-11
 returns-11 c =
-    let a = c .before .before .before .before .before .args in
-    rw (c .before .before .before .enum-told7 .given .1) (says-power (putZ (a .d) (a .q)) (λ (u : List Pauli). minus (a .d) (column (a .n) u (a .q) .phase / 2)) (c .before .negative2 .ensures ∙ ap (λ (x : ℕ). minus (a .d) (x / 2)) (c .before .before .phase-at .ensures (a .n) (omega arith))) (says-z (a .d) (a .n) (a .q) _ (c .on-one3 .ensures) (omega arith) (rw (c .before .negative2 .ensures) (mod-lt _ (omega arith)))))
+    let a = c .before .before .before .before .before .before .args in
+    let h = c .before .before .half .ensures ∙ ap (λ (x : ℕ). x / 2 % a .d) (c .before .before .before .phase-at .ensures (a .n) (omega arith)) in
+    rw (c .before .before .before .before .enum-told7 .given .1) (says-power (putZ (a .d) (a .q)) (λ (u : List Pauli). minus (a .d) (column (a .n) u (a .q) .phase / 2)) (c .before .negative2 .ensures ∙ ap (minus (a .d)) h ∙ minus-reduced (a .d) _) (says-z (a .d) (a .n) (a .q) _ (c .on-one3 .ensures) (omega arith) (rw (c .before .negative2 .ensures) (mod-lt _ (omega arith)))))
 
 returns-12 : tie.Need-returns-12
 returns-12 c =
     let a = c .before .before .before .before .before .args in
-    rw (c .before .before .before .enum-told8 .given .1) (says-power (putX (a .d) (a .q)) (λ (u : List Pauli). column (a .n) u (a .n + a .q) .phase / 2 % a .d) (c .before .within3 .ensures ∙ ap (λ (x : ℕ). x / 2 % a .d) (c .before .before .phase-at2 .ensures (a .n) (omega arith))) (says-x (a .d) (a .n) (a .q) _ (c .on-one4 .ensures) (omega arith) (rw (c .before .within3 .ensures) (mod-lt _ (omega arith)))))
+    rw (c .before .before .before .enum-told8 .given .1) (says-power (putX (a .d) (a .q)) (λ (u : List Pauli). column (a .n) u (a .n + a .q) .phase / 2 % a .d) (c .before .half2 .ensures ∙ ap (λ (x : ℕ). x / 2 % a .d) (c .before .before .phase-at2 .ensures (a .n) (omega arith))) (says-x (a .d) (a .n) (a .q) _ (c .on-one4 .ensures) (omega arith) (rw (c .before .half2 .ensures) (mod-lt _ (omega arith)))))
 
 pub next-row-spec : {M : Type 1} → statement M
 next-row-spec = tie.close (tie.spec
@@ -151,12 +158,13 @@ next-row-spec = tie.close (tie.spec
     (λ c κs. search needs)  -- on-one-requires-2
     (λ c. search needs)  -- enum-told-7
     (λ c κs. search needs)  -- phase-at-requires
+    (λ c κs. search needs)  -- half-requires
     (λ c κs. search needs)  -- negative-requires-2
     (λ c κs. search needs)  -- on-one-requires-3
     (λ c. search needs)  -- enum-told-8
     (λ c. search needs)  -- add-phase-at
     (λ c κs. search needs)  -- phase-at-requires-2
-    (λ c κs. search needs)  -- within-requires-3
+    (λ c κs. search needs)  -- half-requires-2
     (λ c κs. search needs)  -- on-one-requires-4
     returns
     returns-2

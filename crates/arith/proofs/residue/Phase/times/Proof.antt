@@ -9,6 +9,7 @@ use Rattle.arith.proofs.residue.Phase.times.Tie as tie
 pub times-spec : {M : Type 1} → statement M
 times-spec = tie.close (tie.spec
     (λ c. search needs)  -- cast-reduced
-    (λ c. let a = c .before .args in let h : a .k ≤ 65535 = search needs in let k : a .self .0 ≤ 65535 = search needs in omega (arith, mul-le-mul h k))  -- mul-reduced
+    (λ c. search needs)  -- cast-reduced-2
+    (λ c. let a = c .before .before .args in let h : a .k .0 ≤ 65535 = search needs in let k : a .self .0 ≤ 65535 = search needs in omega (arith, mul-le-mul h k))  -- mul-reduced
     (λ c κs. search needs)  -- reduced-requires
     (λ c. search needs))  -- returns

@@ -10,16 +10,16 @@ returns : tie.Need-returns
 returns c i j p apart a b e =
     let s = c .before .before .before .before .before .before .before .before .before in
     let d = s .args .d in
-    let k = s .args .k in
+    let k = s .args .k .0 in
     let h = s .pre .d-low in
     puts-a d k apart a b e
-    (rw (c .before .before .before .times .ensures) at (c .before .before .minus .ensures) ∙ minus-entry d k h _ _ .same)
-    (rw (c .before .times2 .ensures) at (c .plus .ensures) ∙ plus-entry d k h _ _ .same)
+    (rw (c .before .before .before .scaled .ensures) at (c .before .before .minus .ensures) ∙ minus-entry d k h _ _ .same)
+    (rw (c .before .scaled2 .ensures) at (c .plus .ensures) ∙ plus-entry d k h _ _ .same)
 
 pub effect-a-spec : {M : Type 1} → statement M
 effect-a-spec = tie.close (tie.spec
-    (λ c κs. search needs)  -- times-requires
+    (λ c κs. search needs)  -- scaled-requires
     (λ c κs. search needs)  -- minus-requires
-    (λ c κs. search needs)  -- times-requires-2
+    (λ c κs. search needs)  -- scaled-requires-2
     (λ c κs. search needs)  -- plus-requires
     returns)

@@ -11,10 +11,10 @@ use Rattle.pauli.proofs.touched.Touched.effect_f.Statement.{statement}
 use Rattle.pauli.proofs.touched.Touched.effect_f.Tie as tie
 
 abbrev Inv-loop : tie.InvT-loop
-Inv-loop k d t₀ counter₀ t counter = (counter ≤ k) × OnOne (λ i p. effectF d i counter p) (viewTouched t₀) (viewTouched t)
+Inv-loop d times t₀ counter₀ t counter = (counter ≤ times) × OnOne (λ i p. effectF d i counter p) (viewTouched t₀) (viewTouched t)
 
 abbrev μ-loop : tie.MeasureT-loop
-μ-loop k d t₀ counter₀ t counter = k - counter
+μ-loop d times t₀ counter₀ t counter = times - counter
 
 loop-again : tie.Need-loop-again Inv-loop μ-loop
 loop-again c =
@@ -28,4 +28,4 @@ effect-f-spec = tie.close (tie.spec Inv-loop μ-loop
     (λ c. search needs)  -- add-counter
     (λ c. search needs)  -- loop-less
     loop-again
-    (λ c. let e : c .before .loop .counter ≡ c .before .before .args .k = omega arith in rw e at (c .before .loop .inv .1)))  -- returns
+    (λ c. let e : c .before .loop .counter ≡ c .before .before .args .k .0 = omega arith in rw e at (c .before .loop .inv .1)))  -- returns

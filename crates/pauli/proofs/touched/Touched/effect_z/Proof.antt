@@ -10,12 +10,12 @@ returns : tie.Need-returns
 returns c i p a e =
     let s = c .before .before .before .before .before .before .before in
     let d = s .args .d in
-    let k = s .args .k in
-    rw (c .on-one .ensures) (puts-z d k a e (c .before .plus .ensures ∙ rw (c .before .before .doubled .ensures, c .before .before .before .times .ensures) (z-phase d k (s .pre .d-low) _ _ .same)))
+    let k = s .args .k .0 in
+    rw (c .on-one .ensures) (puts-z d k a e (c .before .plus .ensures ∙ rw (c .before .before .doubled .ensures, c .before .before .before .scaled .ensures) (z-phase d k (s .pre .d-low) _ _ .same)))
 
 pub effect-z-spec : {M : Type 1} → statement M
 effect-z-spec = tie.close (tie.spec
-    (λ c κs. search needs)  -- times-requires
+    (λ c κs. search needs)  -- scaled-requires
     (λ c κs. search needs)  -- doubled-requires
     (λ c κs. search needs)  -- plus-requires
     (λ c κs. search needs)  -- on-one-requires
