@@ -41,9 +41,9 @@ pub fn least_multiplier(d: u16, a: u16, b: u16) -> Answer
     let Check::Good = found else {
         return refused(found);
     };
-    let m = crate::divisor::least_multiplier(Residue(a), Residue(b), d);
+    let m = crate::divisor::least_multiplier(Residue::below(a, d), Residue::below(b, d), d);
     Answer {
         number: 0,
-        value: m.0,
+        value: m.value(),
     }
 }

@@ -67,8 +67,12 @@ record Tests (d n kind i j k : ℕ) : Type 0 where
   first-high : i ≤ n
   second : legalSecond n kind i j ≡ true
 
-between-held : {low high : ℕ} (x : ℕ) → between low high x ≡ true → (low ≤ x) × (x ≤ high)
+pub between-held : {low high : ℕ} (x : ℕ) → between low high x ≡ true → (low ≤ x) × (x ≤ high)
 between-held {low} {high} x e = let b = both-held (leb low x) (leb x high) e in (leb-true low x (b .0), leb-true x high (b .1))
+
+-- the power of M is below d
+pub m-below : (d kind k : ℕ) → kind ≡ 4 → (1 ≤ k) × (k ≤ highest d kind) → k < d
+m-below d kind k e h = let l = rw e at (h .1) in omega arith
 
 tests : (d n : ℕ) (w : WrittenRow) → legalRow d n w ≡ true → Tests d n (w .kind) (w .first) (w .second) (w .power)
 unfolding legalRow
@@ -111,8 +115,8 @@ module _ (d n : ℕ) (w : WrittenRow) (legal : legalRow d n w ≡ true) where
   pub legal-apart : takesTwo (w .kind) ≡ true → w .first - 1 ≢ w .second - 1
   legal-apart e q = let t = two-held n (w .first) (w .second) (rw e at (tests d n w legal .second)) in let f = legal-first in t .other (omega arith)
 
-  pub legal-unit : w .kind ≡ 4 → IsUnit d (w .power)
-  legal-unit e = eqb-true (gcd (w .power) d) 1 (rw e at (tests d n w legal .unit))
+  pub legal-unit : w .kind ≡ 4 → (w .power < d) × IsUnit d (w .power)
+  legal-unit e = let t = tests d n w legal in (m-below d (w .kind) (w .power) e (t .power-low, t .power-high), eqb-true (gcd (w .power) d) 1 (rw e at (t .unit)))
 
   pub legal-highest : w .power ≤ highest d (w .kind)
   legal-highest = tests d n w legal .power-high

@@ -5,7 +5,7 @@ use pauli::Pauli;
 use pauli::touched::Touched;
 ghost use mathlib.Core.Path.{_≡_};
 ghost use mathlib.Core.Bool.{true};
-ghost use Prim.Native.Nat.{ℕ, _≤_};
+ghost use Prim.Native.Nat.{ℕ, _≤_, _<_};
 ghost use Rattle.arith.specs.Refusals.{Dimension};
 ghost use Rattle.arith.specs.Units.{IsUnit};
 ghost use Rattle.pauli.specs.View.{view};
@@ -64,7 +64,7 @@ impl Row {
         let high = highest_power(kind, d);
         if within(1, high as usize, self.power as usize) {
             match kind {
-                4 => arith::divisor::is_unit(Residue(self.power), d),
+                4 => arith::divisor::is_unit(Residue::below(self.power, d), d),
                 _ => true,
             }
         } else {
@@ -121,25 +121,25 @@ impl Row {
     {
         let kind = self.kind;
         match kind {
-            4 => self.with_power(arith::divisor::inverse(Residue(self.power), d).0),
+            4 => self.with_power(arith::divisor::inverse(Residue::below(self.power, d), d).value()),
             _ => self.with_power(highest_power(kind, d) + 1 - self.power),
         }
     }
 
     // The row with what its effect needs besides.
     pub fn ready(self, d: u16) -> Ready
-        requires { ⌜ Dimension d × (self .kind ≡ 4 → IsUnit d (self .power)) ⌝ }
+        requires { ⌜ Dimension d × (self .kind ≡ 4 → (self .power < d) × IsUnit d (self .power)) ⌝ }
         ensures { λ r. ⌜ (r .row ≡ self) × InverseRight d r ⌝ }
     {
         let kind = self.kind;
         match kind {
             4 => Ready {
                 row: self,
-                inverse: arith::divisor::inverse(Residue(self.power), d),
+                inverse: arith::divisor::inverse(Residue::below(self.power, d), d),
             },
             _ => Ready {
                 row: self,
-                inverse: Residue(1),
+                inverse: Residue::ONE,
             },
         }
     }

@@ -14,7 +14,7 @@ ghost use Rattle.pauli.specs.View.{entries};
 fn whole_product(x: Residue, y: Residue) -> u64
     ensures { λ r. ⌜ (r ≡ x .0 * y .0) × (r < 4294967296) ⌝ }
 {
-    (x.0 as u64) * (y.0 as u64)
+    (x.value() as u64) * (y.value() as u64)
 }
 
 // a·b: the sum of the products, not reduced.
@@ -48,7 +48,7 @@ pub fn bounds(v: [Residue; 16], w: [Residue; 16], d: u16, n: usize) -> Check
     for i in 0..n {
         let x = v[i];
         let z = w[i];
-        top = larger(top, larger(x.0, z.0));
+        top = larger(top, larger(x.value(), z.value()));
     }
     arith::checks::range(d, top)
 }
@@ -58,9 +58,9 @@ pub fn entries_from(a: &[u16; 33], k: usize) -> [Residue; 16]
     requires { ⌜ k ≤ 17 ⌝ }
     ensures { λ r. ⌜ ((n : ℕ) → n ≤ 16 → entries n r ≡ tab (λ i. getD (now (a .entry)) (k + i) 0) n) ⌝ }
 {
-    let mut out = [Residue(0); 16];
+    let mut out = [Residue::ZERO; 16];
     for i in 0..16 {
-        out[i] = Residue(a[k + i]);
+        out[i] = Residue::lent(a[k + i]);
     }
     out
 }

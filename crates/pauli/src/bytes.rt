@@ -29,7 +29,7 @@ fn write_entries(b: &mut [u8], k: usize, a: [Residue; 16], n: usize)
 {
     for i in 0..n {
         let x = a[i];
-        arith::numbers::put(b, k + i, x.0);
+        arith::numbers::put(b, k + i, x.value());
     }
 }
 
@@ -43,7 +43,7 @@ impl Pauli {
         let v = crate::arrays::entries_from(&numbers, 1);
         let w = crate::arrays::entries_from(&numbers, 1 + n);
         Pauli {
-            phase: Phase(numbers[0]),
+            phase: Phase::lent(numbers[0]),
             v: v,
             w: w,
         }
@@ -57,7 +57,7 @@ impl Pauli {
         let phase = self.phase;
         let v = self.v;
         let w = self.w;
-        arith::numbers::put(b, k, phase.0);
+        arith::numbers::put(b, k, phase.value());
         write_entries(b, k + 1, v, n);
         write_entries(b, k + 1 + n, w, n);
     }

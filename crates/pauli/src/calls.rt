@@ -108,9 +108,9 @@ pub fn commutation(d: u16, n: u16, p: &[u8], q: &[u8]) -> Answer
     let Check::Good = ranged else {
         return arith::calls::refused(ranged);
     };
-    let value = first.commutation(second, d, m);
+    let number = first.commutation(second, d, m);
     Answer {
         number: 0,
-        value: value.0,
+        value: number.value(),
     }
 }

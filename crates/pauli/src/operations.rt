@@ -27,8 +27,8 @@ impl Pauli {
     {
         Pauli {
             phase: h,
-            v: [Residue(0); 16],
-            w: [Residue(0); 16],
+            v: [Residue::ZERO; 16],
+            w: [Residue::ZERO; 16],
         }
     }
 
@@ -37,19 +37,19 @@ impl Pauli {
         requires { ⌜ (n ≤ 16) × (j < 2 * n) ⌝ }
         ensures { λ r. ⌜ view n r ≡ unit n j ⌝ }
     {
-        let zeros = [Residue(0); 16];
-        let mut one = [Residue(0); 16];
+        let zeros = [Residue::ZERO; 16];
+        let mut one = [Residue::ZERO; 16];
         if j < n {
-            one[j] = Residue(1);
+            one[j] = Residue::ONE;
             return Pauli {
-                phase: Phase(0),
+                phase: Phase::ZERO,
                 v: one,
                 w: zeros,
             };
         }
-        one[j - n] = Residue(1);
+        one[j - n] = Residue::ONE;
         Pauli {
-            phase: Phase(0),
+            phase: Phase::ZERO,
             v: zeros,
             w: one,
         }
@@ -64,8 +64,8 @@ impl Pauli {
         let w = self.w;
         let s = other.v;
         let t = other.w;
-        let mut vs = [Residue(0); 16];
-        let mut wt = [Residue(0); 16];
+        let mut vs = [Residue::ZERO; 16];
+        let mut wt = [Residue::ZERO; 16];
         for i in 0..n {
             let x = v[i];
             let z = w[i];
@@ -86,8 +86,8 @@ impl Pauli {
     {
         let v = self.v;
         let w = self.w;
-        let mut kv = [Residue(0); 16];
-        let mut kw = [Residue(0); 16];
+        let mut kv = [Residue::ZERO; 16];
+        let mut kw = [Residue::ZERO; 16];
         for i in 0..n {
             let x = v[i];
             let z = w[i];
@@ -126,7 +126,7 @@ impl Pauli {
         let twist = Residue::reduced(crate::arrays::sum_of_products(w, v, n), d);
         let delta = self.phase;
         let phase = Phase::reduced(
-            ordered_pairs(k) * (twist.0 as u64) + (k.0 as u64) * (delta.0 as u64),
+            ordered_pairs(k) * (twist.value() as u64) + (k.0 as u64) * (delta.value() as u64),
             d,
         );
         self.scaled(k, phase, d, n)
@@ -155,7 +155,7 @@ impl Pauli {
         let w = self.w;
         let delta = self.phase;
         let sum = crate::arrays::sum_of_products(w, v, n);
-        arith::residue::remainder((delta.0 as u64) + ((d as u64) - 1) * sum, 2)
+        arith::residue::remainder((delta.value() as u64) + ((d as u64) - 1) * sum, 2)
     }
 
     // 5: the phase below 2d, then every v and every w below d.
@@ -166,7 +166,7 @@ impl Pauli {
         let phase = self.phase;
         let v = self.v;
         let w = self.w;
-        let of_phase = arith::checks::range(2 * d, phase.0);
+        let of_phase = arith::checks::range(2 * d, phase.value());
         let Check::Good = of_phase else {
             return of_phase;
         };

@@ -4,6 +4,8 @@ use arith::residue::Phase;
 use arith::residue::Power;
 use arith::residue::Residue;
 ghost use mathlib.Core.Path.{_≡_};
+ghost use Prim.Native.Nat.{_+_};
+ghost use lib.Dec.{eqb};
 ghost use Rattle.arith.specs.Refusals.{Dimension};
 ghost use Rattle.arith.specs.Units.{inverseOf};
 ghost use Rattle.pauli.specs.Touched.{viewTouched, still, OnOne, OnTwo};
@@ -28,6 +30,13 @@ fn on_one(phase: Phase, v: Residue, w: Residue) -> Touched
         vj: v,
         wj: w,
     }
+}
+
+// Whether both are 0: one test for v and w of a qudit, since a test of each is guessed wrongly more often.
+fn both_zero(v: Residue, w: Residue) -> bool
+    ensures { λ r. ⌜ r ≡ eqb (v .0 + w .0) 0 ⌝ }
+{
+    (v.value() as u64) + (w.value() as u64) == 0
 }
 
 impl Touched {
@@ -124,7 +133,6 @@ impl Touched {
     }
 
     // Whether no row changes them: v and w are 0 at its qudits, and the phase is below 2d, so that no row reduces it.
-    // There is one test for v and w of a qudit, since a test of each is guessed wrongly more often.
     pub fn still(self, d: u16) -> bool
         requires { ⌜ Dimension d ⌝ }
         ensures { λ r. ⌜ r ≡ still d (viewTouched self) ⌝ }
@@ -134,9 +142,9 @@ impl Touched {
         let z = self.wi;
         let y = self.vj;
         let u = self.wj;
-        if (x.0 as u64) + (z.0 as u64) == 0 {
-            if (y.0 as u64) + (u.0 as u64) == 0 {
-                return phase.0 < 2 * d;
+        if both_zero(x, z) {
+            if both_zero(y, u) {
+                return phase.value() < 2 * d;
             }
         }
         false

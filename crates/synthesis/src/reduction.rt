@@ -21,7 +21,7 @@ fn no_v(t: &[[u16; 33]; 32], c: usize, from: usize, n: usize) -> bool
     ensures { λ r. ⌜ r ≡ noV (column n (tableView n (now (t .entry))) c) (upFrom from (n - from)) ⌝ }
 {
     for i in from..n {
-        if v_at(t, c, i).0 != 0 {
+        if v_at(t, c, i).value() != 0 {
             return false;
         }
     }

@@ -57,7 +57,7 @@ fn by_a(i: usize, j: usize, k: Residue) -> Row
         kind: 3,
         first: (i as u16) + 1,
         second: (j as u16) + 1,
-        power: k.0,
+        power: k.value(),
     }
 }
 
@@ -65,7 +65,7 @@ fn by_a(i: usize, j: usize, k: Residue) -> Row
 fn exchange_power(w: Residue, d: u16) -> u16
     ensures { λ r. ⌜ r ≡ cond (ltb d (2 * w .0)) 1 3 ⌝ }
 {
-    if (d as u32) < 2 * (w.0 as u32) {
+    if (d as u32) < 2 * (w.value() as u32) {
         return 1;
     }
     3
@@ -91,10 +91,11 @@ fn by_m(i: usize, k: Residue) -> Row
     requires { ⌜ i < 16 ⌝ }
     ensures { λ r. ⌜ ((d n : ℕ) (t : List Pauli) → 1 < d → k .0 < d → IsUnit d (k .0) → i < n → Says d n (putM d i (k .0)) t (viewRow r)) ⌝ }
 {
-    if k.0 == 1 {
+    let power = k.value();
+    if power == 1 {
         return on_one(4, i, 0);
     }
-    on_one(4, i, k.0)
+    on_one(4, i, power)
 }
 
 // The row that a turn puts behind next.
@@ -107,7 +108,7 @@ pub fn next_row(t: &[[u16; 33]; 32], which: Turn, j: usize, q: usize, d: u16, n:
     match which {
         Turn::GatherW(c) => by_s(
             j,
-            arith::divisor::least_multiplier(w_at(t, c, j), v_at(t, c, j), d).0,
+            arith::divisor::least_multiplier(w_at(t, c, j), v_at(t, c, j), d).value(),
             d,
         ),
         Turn::Exchange(c) => on_one(1, j, exchange_power(w_at(t, c, j), d)),
@@ -121,9 +122,9 @@ pub fn next_row(t: &[[u16; 33]; 32], which: Turn, j: usize, q: usize, d: u16, n:
         Turn::ClearV => by_a(q, j, v_at(t, q, j).negative(d)),
         Turn::ClearPartnerW => by_a(j, q, w_at(t, n + q, j).within(d)),
         Turn::ClearPartnerV => by_a(q, j, v_at(t, n + q, j).within(d)),
-        Turn::ShearPartner => by_s(q, w_at(t, n + q, q).0, d),
+        Turn::ShearPartner => by_s(q, w_at(t, n + q, q).value(), d),
         Turn::Fourier(k) => on_one(1, q, k),
-        Turn::PhaseZ => on_one(6, q, phase_at(t, q).half(d).negative(d).0),
-        Turn::PhaseX => on_one(5, q, phase_at(t, n + q).half(d).0),
+        Turn::PhaseZ => on_one(6, q, phase_at(t, q).half(d).negative(d).value()),
+        Turn::PhaseX => on_one(5, q, phase_at(t, n + q).half(d).value()),
     }
 }

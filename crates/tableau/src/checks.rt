@@ -29,7 +29,7 @@ fn pair_passes(t: &[[u16; 33]; 32], j: usize, k: usize, d: u16, n: usize) -> boo
     ensures { λ r. ⌜ r ≡ pairPasses d n (tableView n (now (t .entry))) j k ⌝ }
 {
     let found = crate::table::column(t, j).commutation(crate::table::column(t, k), d, n);
-    found.0 == wanted(j, k, d, n)
+    found.value() == wanted(j, k, d, n)
 }
 
 // 7 of column j with every later column.

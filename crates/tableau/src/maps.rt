@@ -21,11 +21,11 @@ fn exponent(p: Pauli, j: usize, n: usize) -> Power
     if j < n {
         let v = p.v;
         let x = v[j];
-        return Power(x.0);
+        return Power(x.value());
     }
     let w = p.w;
     let x = w[j - n];
-    Power(x.0)
+    Power(x.value())
 }
 
 // The image of p: its phase alone, times column 1 to the power v1, and so on to column 2n to the power wn.
@@ -49,15 +49,15 @@ fn drawn(t: &[[u16; 33]; 32], q: Pauli, d: u16, n: usize) -> Pauli
     requires { ⌜ Dimension d × (n ≤ 16) ⌝ }
     ensures { λ r. ⌜ view n r ≡ drawn d n (tableView n (now (t .entry))) (view n q) ⌝ }
 {
-    let mut v = [Residue(0); 16];
-    let mut w = [Residue(0); 16];
+    let mut v = [Residue::ZERO; 16];
+    let mut w = [Residue::ZERO; 16];
     for i in 0..n {
         let z = q.commutation(crate::table::column(t, n + i), d, n);
         v[i] = z.negative(d);
         w[i] = q.commutation(crate::table::column(t, i), d, n);
     }
     Pauli {
-        phase: Phase(0),
+        phase: Phase::ZERO,
         v: v,
         w: w,
     }

@@ -29,7 +29,7 @@ pub fn v_at(t: &[[u16; 33]; 32], c: usize, i: usize) -> Residue
     requires { ⌜ (c < 32) × (i < 16) ⌝ }
     ensures { λ r. ⌜ ((n : ℕ) → c < 2 * n → i < n → r .0 ≡ getD (column n (tableView n (now (t .entry))) c .v) i 0) ⌝ }
 {
-    Residue(t[c][1 + i])
+    Residue::lent(t[c][1 + i])
 }
 
 // w of qudit i in column c.
@@ -37,7 +37,7 @@ pub fn w_at(t: &[[u16; 33]; 32], c: usize, i: usize) -> Residue
     requires { ⌜ (c < 32) × (i < 16) ⌝ }
     ensures { λ r. ⌜ ((n : ℕ) → c < 2 * n → i < n → r .0 ≡ getD (column n (tableView n (now (t .entry))) c .w) i 0) ⌝ }
 {
-    Residue(t[c][17 + i])
+    Residue::lent(t[c][17 + i])
 }
 
 // The phase of column c.
@@ -45,7 +45,7 @@ pub fn phase_at(t: &[[u16; 33]; 32], c: usize) -> Phase
     requires { ⌜ c < 32 ⌝ }
     ensures { λ r. ⌜ ((n : ℕ) → c < 2 * n → r .0 ≡ column n (tableView n (now (t .entry))) c .phase) ⌝ }
 {
-    Phase(t[c][0])
+    Phase::lent(t[c][0])
 }
 
 // ---- its columns
@@ -58,7 +58,7 @@ pub fn column(t: &[[u16; 33]; 32], j: usize) -> Pauli
     let v = pauli::arrays::entries_from(&t[j], 1);
     let w = pauli::arrays::entries_from(&t[j], 17);
     Pauli {
-        phase: Phase(t[j][0]),
+        phase: Phase::lent(t[j][0]),
         v: v,
         w: w,
     }
@@ -127,11 +127,11 @@ fn touched(c: &[u16; 33], i: usize, j: usize) -> Touched
     ensures { λ r. ⌜ ((n : ℕ) → i < n → j < n → touched i j (columnView n (now (c .entry))) ≡ viewTouched r) ⌝ }
 {
     Touched {
-        phase: Phase(c[0]),
-        vi: Residue(c[1 + i]),
-        wi: Residue(c[17 + i]),
-        vj: Residue(c[1 + j]),
-        wj: Residue(c[17 + j]),
+        phase: Phase::lent(c[0]),
+        vi: Residue::lent(c[1 + i]),
+        wi: Residue::lent(c[17 + i]),
+        vj: Residue::lent(c[1 + j]),
+        wj: Residue::lent(c[17 + j]),
     }
 }
 
@@ -146,11 +146,11 @@ fn replace(c: &mut [u16; 33], i: usize, j: usize, t: Touched)
     let z = t.wi;
     let y = t.vj;
     let u = t.wj;
-    c[0] = phase.0;
-    c[1 + i] = x.0;
-    c[17 + i] = z.0;
-    c[1 + j] = y.0;
-    c[17 + j] = u.0;
+    c[0] = phase.value();
+    c[1 + i] = x.value();
+    c[17 + i] = z.value();
+    c[1 + j] = y.value();
+    c[17 + j] = u.value();
 }
 
 // A legal row put behind a column. Many columns have 0 at its qudits, and stay as they are.

@@ -51,6 +51,7 @@ abbrev μ-loop : tie.MeasureT-loop
 
 pub euclid-spec : {M : Type 1} → statement M
 euclid-spec = tie.close (tie.spec Inv-loop μ-loop
+    (λ c κs. search needs)  -- value-requires
     (λ c. search needs)  -- cast-x
     (λ c. record { divisor = refl; of-x = cong-of-eq (omega arith); of-y = cong-intro 1 0 (omega arith); s-below = omega arith; t-below = omega arith })  -- loop-holds
     (λ c. search needs)  -- div-near
@@ -61,5 +62,5 @@ euclid-spec = tie.close (tie.spec Inv-loop μ-loop
     (λ c. mod-lt (c .before .before .before .before .loop .y) (omega arith))  -- loop-less
     (λ c. let l = c .before .before .before .before .loop in
     turn-next (l .x) (l .y) (omega arith) (omega arith) (l .inv) (c .minus .ensures ∙ ap (λ (x : ℕ). (l .t .0 + neg (c .before .before .before .before .before .before .args .d) x) % c .before .before .before .before .before .before .args .d) (c .before .times .ensures ∙ ap (λ (x : ℕ). x * l .s .0 % c .before .before .before .before .before .before .args .d) (c .before .before .near .ensures))))  -- loop-again
-    (λ c. let l = c .before .loop in let z = c .before .before .before .args in
-    turn-done (z .d) (z .a .0) (l .x) (l .y) (l .s .0) (l .t .0) (omega arith) (l .inv)))  -- returns
+    (λ c. let l = c .before .loop in let a = c .before .before .value in
+    rw (a .ensures) at (turn-done (c .before .before .before .args .d) (a .result) (l .x) (l .y) (l .s .0) (l .t .0) (omega arith) (l .inv))))  -- returns

@@ -1,4 +1,3 @@
-use Rattle.arith.specs.Gcd.{gcd}
 -- `gates::Row::legal_power` meets its contract: the power's bounds, then for M whether it is a unit.
 use mathlib.Core.Path.{_≡_, sym, _∙_, ap}
 use mathlib.Core.Bool.{Bool, true, cond}
@@ -6,8 +5,9 @@ use mathlib.Core.Logic.{_≢_}
 use lib.Dec.{eqb}
 use Prim.Native.Nat.{ℕ}
 use borrow.Author.Tests.{ne-eqb}
-use Rattle.gates.specs.Written.{between}
-use Rattle.gates.proofs.Written.{second-decides, first-fails}
+use Rattle.arith.specs.Gcd.{gcd}
+use Rattle.gates.specs.Written.{between, highest}
+use Rattle.gates.proofs.Written.{between-held, m-below, second-decides, first-fails}
 use borrow.Author.Needs.{needs}
 use Rattle.gates.proofs.Row.legal_power.Statement.{statement}
 use Rattle.gates.proofs.Row.legal_power.Tie as tie
@@ -23,13 +23,27 @@ unit kind e f = rw e f
 no-unit : (kind : ℕ) (t : Bool) → kind ≢ 4 → true ≡ cond (eqb kind 4) t true
 no-unit kind t e = rw (ne-eqb kind 4 e)
 
+-- the power is 1 to the kind's highest
+held : (c : tie.Then1) → let a = c .before .before .before .before .args in between 1 (highest (a .d) (a .self .kind)) (a .self .power) ≡ true
+held c = bounds (c .before .before .before .before .args .self .power) (c .before .before .before .highest-power .ensures) (c .before .within .ensures) ∙ c .if1 .taken
+
+below-requires : tie.Need-below-requires
+below-requires c κs = let a = c .before .before .before .before .before .args in m-below (a .d) (a .self .kind) (a .self .power) (c .match .keys1) (between-held (a .self .power) (held (c .before)))
+
+returns : tie.Need-returns
+returns c =
+    let m = c .before .before in
+    let a = m .before .before .before .before .before .args in
+    second-decides (held (m .before)) (unit (a .self .kind) (m .match .keys1) (c .is-unit .ensures ∙ ap (λ (x : ℕ). eqb (gcd x (a .d)) 1) (c .before .below .ensures)))
+
 pub legal-power-spec : {M : Type 1} → statement M
 legal-power-spec = tie.close (tie.spec
     (λ c κs. search needs)  -- highest-power-requires
     (λ c. search needs)  -- cast-within
     (λ c. search needs)  -- cast-within-2
     (λ c κs. search needs)  -- within-requires
+    below-requires
     (λ c κs. search needs)  -- is-unit-requires
-    (λ c. let s = c .before .before .before .before .before .before .args .self in second-decides (bounds (s .power) (c .before .before .before .before .before .highest-power .ensures) (c .before .before .before .within .ensures) ∙ c .before .before .if1 .taken) (unit (s .kind) (c .before .match .keys1) (c .is-unit .ensures)))  -- returns
-    (λ c. let a = c .before .before .before .before .before .args in second-decides (bounds (a .self .power) (c .before .before .before .before .highest-power .ensures) (c .before .before .within .ensures) ∙ c .before .if1 .taken) (no-unit (a .self .kind) (eqb (gcd (a .self .power) (a .d)) 1) (c .match .rest .1)))  -- returns-2
+    returns
+    (λ c. let a = c .before .before .before .before .before .args in second-decides (held (c .before)) (no-unit (a .self .kind) (eqb (gcd (a .self .power) (a .d)) 1) (c .match .rest .1)))  -- returns-2
     (λ c. let s = c .before .before .before .before .args .self in first-fails _ (bounds (s .power) (c .before .before .before .highest-power .ensures) (c .before .within .ensures) ∙ c .if1 .left)))  -- returns-3

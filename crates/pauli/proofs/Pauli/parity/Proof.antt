@@ -1,5 +1,5 @@
 -- `pauli::Pauli::parity` meets its contract: d − 1 is at most 1,023 and the sum of products at most 2³⁶, so the number fits.
-use mathlib.Core.Path.{ap, _∙_}
+use mathlib.Core.Path.{ap₂, _∙_}
 use Prim.Native.Nat.{ℕ, _+_, _-_, _*_, _%_, _≤_}
 use native.Mathlib.Nat.{mul-le-mul}
 use native.Mathlib.Omega.{arith}
@@ -20,11 +20,12 @@ add-remainder c =
 returns : tie.Need-returns
 returns c =
     let a = c .before .before .before .before .before .before .args in
-    c .remainder .ensures ∙ ap (λ (x : ℕ). (a .self .phase .0 + (a .d - 1) * x) % 2) (c .before .before .sum-of-products .ensures .0)
+    c .remainder .ensures ∙ ap₂ (λ (x y : ℕ). (x + (a .d - 1) * y) % 2) (c .before .value .ensures) (c .before .before .sum-of-products .ensures .0)
 
 pub parity-spec : {M : Type 1} → statement M
 parity-spec = tie.close (tie.spec
     (λ c κs. search needs)  -- sum-of-products-requires
+    (λ c κs. search needs)  -- value-requires
     (λ c. search needs)  -- cast-remainder
     (λ c. search needs)  -- sub-remainder
     mul-remainder

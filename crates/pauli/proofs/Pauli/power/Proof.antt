@@ -35,24 +35,37 @@ twists-below o t ho ht =
     let b : t ≤ 65535 = omega arith in
     omega (arith, mul-le-mul a b)
 
+-- the two summands of the phase fit
+twists : (c : tie.After-value) → c .before .ordered-pairs .result * c .value .result < 2 ^ 63
+twists c = twists-below _ _ (c .before .ordered-pairs .ensures .1) (search needs)
+
+copies : (c : tie.After-value2) → let a = c .before .before .before .before .before .before .before .before .before .args in a .k .0 * c .value2 .result < 4294967296
+copies c = product-below _ _ (search needs) (search needs)
+
+returns : tie.Need-returns
+returns c =
+    let h = c .before .before in
+    let t = h .before .before in
+    let m = t .before .before .before in
+    let s = m .before .before .before .before in
+    c .scaled .ensures
+    ∙ pauli-path (power-phase _ _ _ (omega arith) (rw (h .value2 .ensures, t .value .ensures) at (c .before .reduced2 .ensures)) (t .before .ordered-pairs .ensures .0) (m .reduced .ensures) (m .before .sum-of-products .ensures .0))
+    (sym (scaled-tab _ _ _ _)) (sym (scaled-tab _ _ _ _))
+    ∙ sym (power-closed (s .args .d) (s .args .n) (s .args .k .0) (omega arith) (s .pre .1))
+
 pub power-spec : {M : Type 1} → statement M
 power-spec = tie.close (tie.spec
     (λ c κs. search needs)  -- sum-of-products-requires
     (λ c κs. search needs)  -- reduced-requires
     (λ c κs. search needs)  -- ordered-pairs-requires
+    (λ c κs. search needs)  -- value-requires
     (λ c. search needs)  -- cast-reduced
-    (λ c. omega (arith, twists-below (c .before .ordered-pairs .result) (c .before .before .before .reduced .result .0) (c .before .ordered-pairs .ensures .1) (search needs)))  -- mul-reduced
+    (λ c. omega (arith, twists c))  -- mul-reduced
     (λ c. search needs)  -- cast-reduced-2
+    (λ c κs. search needs)  -- value-requires-2
     (λ c. search needs)  -- cast-reduced-3
-    (λ c. let a = c .before .before .before .before .before .before .before .before .before .args in
-    omega (arith, product-below (a .k .0) (a .self .phase .0) (search needs) (search needs)))  -- mul-reduced-2
-    (λ c. let a = c .before .before .before .before .before .before .before .before .before .args in
-    omega (arith, twists-below (c .before .before .before .ordered-pairs .result) (c .before .before .before .before .before .reduced .result .0) (c .before .before .before .ordered-pairs .ensures .1) (search needs), product-below (a .k .0) (a .self .phase .0) (search needs) (search needs)))  -- add-reduced
+    (λ c. omega (arith, copies c))  -- mul-reduced-2
+    (λ c. omega (arith, twists (c .before .before), copies c))  -- add-reduced
     (λ c κs. search needs)  -- reduced-requires-2
     (λ c κs. search needs)  -- scaled-requires
-    (λ c. let m = c .before .before .before .before .before .before .before in
-    let s = m .before .before .before .before in
-    c .scaled .ensures
-    ∙ pauli-path (power-phase _ _ _ (omega arith) (c .before .reduced2 .ensures) (c .before .before .before .before .before .ordered-pairs .ensures .0) (m .reduced .ensures) (m .before .sum-of-products .ensures .0))
-    (sym (scaled-tab _ _ _ _)) (sym (scaled-tab _ _ _ _))
-    ∙ sym (power-closed (s .args .d) (s .args .n) (s .args .k .0) (omega arith) (s .pre .1))))  -- returns
+    returns)

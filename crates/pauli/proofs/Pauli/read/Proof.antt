@@ -17,13 +17,13 @@ taken a b k n s t h l e = tab-ext (λ i. getD a (s + i) 0) (λ i. numberAt b (t 
 
 returns : tie.Need-returns
 returns c =
-    let a = c .before .before .before .before .before .before .args in
-    let r = c .before .before .before .before .read-numbers .result in
-    let e = c .before .before .before .before .read-numbers .ensures in
+    let a = c .before .before .before .before .before .before .before .args in
+    let r = c .before .before .before .before .before .read-numbers .result in
+    let e = c .before .before .before .before .before .read-numbers .ensures in
     let z : a .k + 0 ≡ a .k = omega arith in
-    pauli-path (e 0 (omega arith) ∙ ap (numberAt (a .b .now)) z)
-    (c .before .before .entries-from .ensures (a .n) (omega arith) ∙ taken r (a .b .now) (a .k) (a .n) 1 (a .k + 1) e (omega arith) refl)
-    (c .entries-from2 .ensures (a .n) (omega arith) ∙ taken r (a .b .now) (a .k) (a .n) (1 + a .n) (a .k + 1 + a .n) e (omega arith) (omega arith))
+    pauli-path (c .lent .ensures ∙ e 0 (omega arith) ∙ ap (numberAt (a .b .now)) z)
+    (c .before .before .before .entries-from .ensures (a .n) (omega arith) ∙ taken r (a .b .now) (a .k) (a .n) 1 (a .k + 1) e (omega arith) refl)
+    (c .before .entries-from2 .ensures (a .n) (omega arith) ∙ taken r (a .b .now) (a .k) (a .n) (1 + a .n) (a .k + 1 + a .n) e (omega arith) (omega arith))
 
 pub read-spec : {M : Type 1} → statement M
 read-spec = tie.close (tie.spec
@@ -33,5 +33,6 @@ read-spec = tie.close (tie.spec
     (λ c κs. search needs)  -- entries-from-requires
     (λ c. search needs)  -- add-entries-from
     (λ c κs. search needs)  -- entries-from-requires-2
-    (λ c. search needs)  -- array-read-t14
+    (λ c. search needs)  -- array-read-lent
+    (λ c κs. search needs)  -- lent-requires
     returns)

@@ -6,10 +6,13 @@ use Rattle.pauli.proofs.Pauli.write.Statement.{statement}
 use Rattle.pauli.proofs.Pauli.write.Tie as tie
 
 returns : tie.Need-returns
-returns c = write-pauli _ _ _ _ _ _ _ _ _ (tab-length _ _) (c .before .before .before .before .before .before .before .before .before .before .put .ensures) (c .before .before .before .before .before .before .write-entries .ensures) (c .before .before .write-entries2 .ensures)
+returns c =
+    let p = c .before .before .before .before .before .before .before .before .before .before in
+    write-pauli _ _ _ _ _ _ _ _ _ (tab-length _ _) (rw (p .before .value .ensures) at (p .put .ensures)) (c .before .before .before .before .before .before .write-entries .ensures) (c .before .before .write-entries2 .ensures)
 
 pub write-spec : {M : Type 1} → statement M
 write-spec = tie.close (tie.spec
+    (λ c κs. search needs)  -- value-requires
     (λ c κs. search needs)  -- put-requires
     (λ c. search needs)  -- add-write-entries
     (λ c κs. search needs)  -- write-entries-requires

@@ -16,6 +16,13 @@ Inv-loop d n v w top₀ i₀ top i = (i ≤ n) × (rangeOf d top ≡ orElse (bou
 abbrev μ-loop : tie.MeasureT-loop
 μ-loop d n v w top₀ i₀ top i = n - i
 
+loop-again : tie.Need-loop-again Inv-loop μ-loop
+loop-again c =
+    let d = c .before .before .before .before .before .before .before .before .args .d in
+    let l = c .before .before .before .before .before .before .before .loop in
+    let larger = rw (c .before .before .before .value .ensures, c .before .before .value2 .ensures) at (c .before .larger .ensures d) in
+    (omega arith, bounds-more d _ _ (l .i) (l .inv .1) larger (c .larger2 .ensures d))
+
 returns : tie.Need-returns Inv-loop μ-loop
 returns c =
     let l = c .before .before .loop in
@@ -29,11 +36,12 @@ bounds-spec = tie.close (tie.spec Inv-loop μ-loop
     (λ c. search needs)  -- array-copy-out-x
     (λ c. search needs)  -- mul-z
     (λ c. search needs)  -- array-copy-out-z
+    (λ c κs. search needs)  -- value-requires
+    (λ c κs. search needs)  -- value-requires-2
     (λ c κs. search needs)  -- larger-requires
     (λ c κs. search needs)  -- larger-requires-2
     (λ c. search needs)  -- add-i
     (λ c. search needs)  -- loop-less
-    (λ c. let l = c .before .before .before .before .before .loop in
-    (omega arith, bounds-more _ _ _ (l .i) (l .inv .1) (c .before .larger .ensures _) (c .larger2 .ensures _)))  -- loop-again
+    loop-again
     (λ c κs. search needs)  -- range-requires
     returns)

@@ -20,15 +20,16 @@ abbrev μ-loop : tie.MeasureT-loop
 pub entries-from-spec : {M : Type 1} → statement M
 entries-from-spec = tie.close (tie.spec Inv-loop μ-loop
     (λ c. (omega arith, (refl, tab-none _ ∙ sym (tab-none _))))  -- loop-holds
-    (λ c. search needs)  -- add-t7
-    (λ c. search needs)  -- mul-t8
-    (λ c. search needs)  -- element-copy-out-t11
+    (λ c. search needs)  -- add-lent
+    (λ c. search needs)  -- mul-lent
+    (λ c. search needs)  -- element-copy-out-lent
+    (λ c κs. search needs)  -- lent-requires
     (λ c. search needs)  -- mul-out
     (λ c. search needs)  -- array-set-from-out
     (λ c. search needs)  -- add-i
     (λ c. search needs)  -- loop-less
-    (λ c. let l = c .before .before .loop in
-    (omega arith, (simp length-set (l .inv .1 .0), fill-more _ (l .out) (l .i) _ (omega arith) refl (l .inv .1 .1))))  -- loop-again
+    (λ c. let l = c .before .before .before .loop in
+    (omega arith, (simp length-set (l .inv .1 .0), fill-more _ (l .out) (l .i) _ (omega arith) (c .lent .ensures) (l .inv .1 .1))))  -- loop-again
     (λ c n h. let l = c .before .loop in
     let e : l .i ≡ 16 = omega arith in
     tab-fewer (at (l .out)) (λ j. getD (c .before .before .args .a .now) (c .before .before .args .k + j) 0) 16 n 0 h (rw e at (l .inv .1 .1))))  -- returns

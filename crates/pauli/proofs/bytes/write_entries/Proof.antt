@@ -28,10 +28,11 @@ write-entries-spec = tie.close (tie.spec Inv-loop μ-loop
     (λ c. search needs)  -- mul-x
     (λ c. search needs)  -- array-copy-out-x
     (λ c. search needs)  -- add-put
+    (λ c κs. search needs)  -- value-requires
     (λ c κs. search needs)  -- put-requires
     (λ c. search needs)  -- add-i
     (λ c. search needs)  -- loop-less
-    (λ c. let l = c .before .before .before .before .before .before .loop in
-    (omega arith, (c .before .before .put .kept .0 ∙ l .inv .1 .0, c .before .before .put .ensures ∙ write-next _ _ _ _ _ _ refl (l .inv .1 .1))))  -- loop-again
+    (λ c. let l = c .before .before .before .before .before .before .before .loop in
+    (omega arith, (c .before .before .put .kept .0 ∙ l .inv .1 .0, c .before .before .put .ensures ∙ write-next _ _ _ _ _ _ (c .before .before .before .value .ensures) (l .inv .1 .1))))  -- loop-again
     (λ c. search needs)  -- same-length
     returns)

@@ -29,11 +29,11 @@ returns-2 c =
 
 returns-3 : tie.Need-returns-3
 returns-3 c =
-    let r = c .before .before .before in
+    let r = c .before .before .before .before in
     answered
-    (past _ _ (after-pair _ _ _ _ _) (passed (r .before .before .before)) ∙ good _ (ranged r) (c .before .enum-told3 .given .1))
+    (past _ _ (after-pair _ _ _ _ _) (passed (r .before .before .before)) ∙ good _ (ranged r) (c .before .before .enum-told3 .given .1))
     refl
-    (c .commutation .ensures ∙ ap₂ (comm _) (r .before .before .read .ensures) (r .before .read2 .ensures))
+    (c .value .ensures ∙ c .before .commutation .ensures ∙ ap₂ (comm _) (r .before .before .read .ensures) (r .before .read2 .ensures))
 
 pub commutation-spec : {M : Type 1} → statement M
 commutation-spec = tie.close (tie.spec
@@ -50,4 +50,5 @@ commutation-spec = tie.close (tie.spec
     (λ c κs. search needs)  -- refused-requires-2
     returns-2
     (λ c κs. let z = pair-lent _ _ _ _ (passed (c .before .before .before .before .before)) in search needs)  -- commutation-requires
+    (λ c κs. search needs)  -- value-requires
     returns-3)

@@ -43,13 +43,13 @@ returns : tie.Need-returns Inv-loop μ-loop
 returns c =
     let a = c .before .before .before .before .before .args in
     let l = c .before .before .before .before .loop in
-    sym (l .inv .1 .1 ∙ stop (a .n) _ (l .i) (omega arith) (λ z. c .if1 .taken (c .before .before .v-at .ensures (a .n) (omega arith) (omega arith) ∙ z)))
+    sym (l .inv .1 .1 ∙ stop (a .n) _ (l .i) (omega arith) (λ z. c .if1 .taken (c .before .value .ensures ∙ c .before .before .v-at .ensures (a .n) (omega arith) (omega arith) ∙ z)))
 
 loop-again : tie.Need-loop-again Inv-loop μ-loop
 loop-again c =
     let a = c .before .before .before .before .before .args in
     let l = c .before .before .before .before .loop in
-    (omega arith, (omega arith, l .inv .1 .1 ∙ next (a .n) _ (l .i) (omega arith) (sym (c .before .before .v-at .ensures (a .n) (omega arith) (omega arith)) ∙ c .if1 .left)))
+    (omega arith, (omega arith, l .inv .1 .1 ∙ next (a .n) _ (l .i) (omega arith) (sym (c .before .value .ensures ∙ c .before .before .v-at .ensures (a .n) (omega arith) (omega arith)) ∙ c .if1 .left)))
 
 returns-2 : tie.Need-returns-2 Inv-loop μ-loop
 returns-2 c =
@@ -61,6 +61,7 @@ pub no-v-spec : {M : Type 1} → statement M
 no-v-spec = tie.close (tie.spec Inv-loop μ-loop
     (λ c. (omega arith, (omega arith, refl)))  -- loop-holds
     (λ c κs. search needs)  -- v-at-requires
+    (λ c κs. search needs)  -- value-requires
     returns
     (λ c. search needs)  -- add-i
     (λ c. search needs)  -- loop-less

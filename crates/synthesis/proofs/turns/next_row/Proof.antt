@@ -47,10 +47,13 @@ inverse-requires c κs = let s = c .before .before .before in (s .pre .0 .0, rw 
 
 returns : tie.Need-returns
 returns c =
-    let a = c .before .before .before .before .before .before .before .args in
-    let x = c .before .before .before .before .before .which .given .0 .0 in
-    let lt = rw (c .before .before .before .before .before .which .given .1) at (c .before .before .before .before .before .before .before .pre .1 .1) in
-    rw (c .before .before .before .before .before .which .given .1) (says-power (putS (a .d) (a .j)) (λ (u : List Pauli). leastMultiplier (a .d) (getD (column (a .n) u (x) .w) (a .j) 0) (getD (column (a .n) u (x) .v) (a .j) 0)) (c .before .least-multiplier .ensures ∙ ap₂ (leastMultiplier (a .d)) (c .before .before .before .w-at .ensures (a .n) lt (omega arith)) (c .before .before .v-at .ensures (a .n) lt (omega arith))) (c .by-s .ensures (a .n) _ (omega arith)))
+    let m = c .before .before in
+    let w = m .before .before .before .before .which .given in
+    let t = m .before .before .before .before .before .before in
+    let a = t .args in
+    let x = w .0 .0 in
+    let lt = rw (w .1) at (t .pre .1 .1) in
+    rw (w .1) (says-power (putS (a .d) (a .j)) (λ (u : List Pauli). leastMultiplier (a .d) (getD (column (a .n) u (x) .w) (a .j) 0) (getD (column (a .n) u (x) .v) (a .j) 0)) (c .before .value .ensures ∙ m .least-multiplier .ensures ∙ ap₂ (leastMultiplier (a .d)) (m .before .before .w-at .ensures (a .n) lt (omega arith)) (m .before .v-at .ensures (a .n) lt (omega arith))) (c .by-s .ensures (a .n) _ (omega arith)))
 
 returns-2 : tie.Need-returns-2
 returns-2 c =
@@ -94,8 +97,8 @@ returns-8 c =
 
 returns-9 : tie.Need-returns-9
 returns-9 c =
-    let a = c .before .before .before .before .args in
-    rw (c .before .before .enum-told6 .given .1) (says-power (putS (a .d) (a .q)) (λ (u : List Pauli). getD (column (a .n) u (a .n + a .q) .w) (a .q) 0) (c .before .w-at4 .ensures (a .n) (omega arith) (omega arith)) (c .by-s3 .ensures (a .n) _ (omega arith)))
+    let a = c .before .before .before .before .before .args in
+    rw (c .before .before .before .enum-told6 .given .1) (says-power (putS (a .d) (a .q)) (λ (u : List Pauli). getD (column (a .n) u (a .n + a .q) .w) (a .q) 0) (c .before .value2 .ensures ∙ c .before .before .w-at4 .ensures (a .n) (omega arith) (omega arith)) (c .by-s3 .ensures (a .n) _ (omega arith)))
 
 returns-10 : tie.Need-returns-10
 returns-10 c =
@@ -105,14 +108,18 @@ returns-10 c =
 
 returns-11 : tie.Need-returns-11
 returns-11 c =
-    let a = c .before .before .before .before .before .before .args in
-    let h = c .before .before .half .ensures ∙ ap (λ (x : ℕ). x / 2 % a .d) (c .before .before .before .phase-at .ensures (a .n) (omega arith)) in
-    rw (c .before .before .before .before .enum-told7 .given .1) (says-power (putZ (a .d) (a .q)) (λ (u : List Pauli). minus (a .d) (column (a .n) u (a .q) .phase / 2)) (c .before .negative2 .ensures ∙ ap (minus (a .d)) h ∙ minus-reduced (a .d) _) (says-z (a .d) (a .n) (a .q) _ (c .on-one3 .ensures) (omega arith) (rw (c .before .negative2 .ensures) (mod-lt _ (omega arith)))))
+    let e = c .before .before .before .before .before in
+    let a = e .before .before .args in
+    let k = c .before .value3 .ensures ∙ c .before .before .negative2 .ensures in
+    let h = c .before .before .before .half .ensures ∙ ap (λ (x : ℕ). x / 2 % a .d) (c .before .before .before .before .phase-at .ensures (a .n) (omega arith)) in
+    rw (e .enum-told7 .given .1) (says-power (putZ (a .d) (a .q)) (λ (u : List Pauli). minus (a .d) (column (a .n) u (a .q) .phase / 2)) (k ∙ ap (minus (a .d)) h ∙ minus-reduced (a .d) _) (says-z (a .d) (a .n) (a .q) _ (c .on-one3 .ensures) (omega arith) (rw k (mod-lt _ (omega arith)))))
 
 returns-12 : tie.Need-returns-12
 returns-12 c =
-    let a = c .before .before .before .before .before .args in
-    rw (c .before .before .before .enum-told8 .given .1) (says-power (putX (a .d) (a .q)) (λ (u : List Pauli). column (a .n) u (a .n + a .q) .phase / 2 % a .d) (c .before .half2 .ensures ∙ ap (λ (x : ℕ). x / 2 % a .d) (c .before .before .phase-at2 .ensures (a .n) (omega arith))) (says-x (a .d) (a .n) (a .q) _ (c .on-one4 .ensures) (omega arith) (rw (c .before .half2 .ensures) (mod-lt _ (omega arith)))))
+    let e = c .before .before .before .before in
+    let a = e .before .before .args in
+    let k = c .before .value4 .ensures ∙ c .before .before .half2 .ensures in
+    rw (e .enum-told8 .given .1) (says-power (putX (a .d) (a .q)) (λ (u : List Pauli). column (a .n) u (a .n + a .q) .phase / 2 % a .d) (k ∙ ap (λ (x : ℕ). x / 2 % a .d) (c .before .before .before .phase-at2 .ensures (a .n) (omega arith))) (says-x (a .d) (a .n) (a .q) _ (c .on-one4 .ensures) (omega arith) (rw k (mod-lt _ (omega arith)))))
 
 pub next-row-spec : {M : Type 1} → statement M
 next-row-spec = tie.close (tie.spec
@@ -120,6 +127,7 @@ next-row-spec = tie.close (tie.spec
     w-at-requires
     v-at-requires
     (λ c κs. search needs)  -- least-multiplier-requires
+    (λ c κs. search needs)  -- value-requires
     (λ c κs. search needs)  -- by-s-requires
     (λ c. search needs)  -- enum-known-which-2
     w-at-requires-2
@@ -153,6 +161,7 @@ next-row-spec = tie.close (tie.spec
     (λ c. search needs)  -- enum-told-6
     (λ c. search needs)  -- add-w-at-2
     (λ c κs. search needs)  -- w-at-requires-4
+    (λ c κs. search needs)  -- value-requires-2
     (λ c κs. search needs)  -- by-s-requires-3
     (λ c. search needs)  -- enum-known-which-4
     (λ c κs. search needs)  -- on-one-requires-2
@@ -160,11 +169,13 @@ next-row-spec = tie.close (tie.spec
     (λ c κs. search needs)  -- phase-at-requires
     (λ c κs. search needs)  -- half-requires
     (λ c κs. search needs)  -- negative-requires-2
+    (λ c κs. search needs)  -- value-requires-3
     (λ c κs. search needs)  -- on-one-requires-3
     (λ c. search needs)  -- enum-told-8
     (λ c. search needs)  -- add-phase-at
     (λ c κs. search needs)  -- phase-at-requires-2
     (λ c κs. search needs)  -- half-requires-2
+    (λ c κs. search needs)  -- value-requires-4
     (λ c κs. search needs)  -- on-one-requires-4
     returns
     returns-2

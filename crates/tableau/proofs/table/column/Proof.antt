@@ -1,5 +1,5 @@
 -- `tableau::table::column` meets its contract: the column as it stands in the table, part by part.
-use mathlib.Core.Path.{refl, sym, _∙_}
+use mathlib.Core.Path.{sym, _∙_}
 use Rattle.pauli.proofs.Ranges.{pauli-path}
 use Rattle.tableau.specs.View.{columnView}
 use Rattle.tableau.proofs.Views.{view-column}
@@ -10,8 +10,8 @@ use Rattle.tableau.proofs.table.column.Tie as tie
 returns : tie.Need-returns
 unfolding columnView
 returns c n h l =
-    let a = c .before .before .before .before .before .args in
-    pauli-path refl (c .before .before .before .entries-from .ensures n h) (c .before .entries-from2 .ensures n h) ∙ sym (view-column n (a .t .now) (a .j) l)
+    let a = c .before .before .before .before .before .before .args in
+    pauli-path (c .lent .ensures) (c .before .before .before .before .entries-from .ensures n h) (c .before .before .entries-from2 .ensures n h) ∙ sym (view-column n (a .t .now) (a .j) l)
 
 pub column-spec : {M : Type 1} → statement M
 column-spec = tie.close (tie.spec
@@ -21,7 +21,8 @@ column-spec = tie.close (tie.spec
     (λ c. search needs)  -- mul-entries-from-2
     (λ c. search needs)  -- index-1-entries-from-2
     (λ c κs. search needs)  -- entries-from-requires-2
-    (λ c. search needs)  -- mul-t5
-    (λ c. search needs)  -- index-1-t16
-    (λ c. search needs)  -- index-2-t16
+    (λ c. search needs)  -- mul-lent
+    (λ c. search needs)  -- index-1-lent
+    (λ c. search needs)  -- index-2-lent
+    (λ c κs. search needs)  -- lent-requires
     returns)

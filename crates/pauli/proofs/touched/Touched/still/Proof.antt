@@ -1,18 +1,23 @@
--- `pauli::touched::Touched::still` meets its contract: each sum decides, and then the phase.
+-- `pauli::touched::Touched::still` meets its contract: each qudit decides, and then the phase.
+use mathlib.Core.Path.{sym, ap, _∙_}
+use Prim.Native.Nat.{ℕ, _*_}
+use lib.Dec.{ltb}
 use borrow.Author.Needs.{needs}
-use borrow.Author.Tests.{eq-eqb, ne-eqb}
 use Rattle.pauli.proofs.touched.Touched.still.Statement.{statement}
 use Rattle.pauli.proofs.touched.Touched.still.Tie as tie
 
+returns : tie.Need-returns
+returns c =
+    let first = c .before .before .before .before in
+    let a = first .before .before .before .before .before .before .args in
+    rw (sym (first .both-zero .ensures) ∙ c .before .before .before .if1 .taken, sym (c .before .before .both-zero2 .ensures) ∙ c .before .if2 .taken) (ap (λ (x : ℕ). ltb x (2 * a .d)) (c .value .ensures))
+
 pub still-spec : {M : Type 1} → statement M
 still-spec = tie.close (tie.spec
-    (λ c. search needs)  -- cast-if1
-    (λ c. search needs)  -- cast-if1-2
-    (λ c. search needs)  -- add-if1
-    (λ c. search needs)  -- cast-if2
-    (λ c. search needs)  -- cast-if2-2
-    (λ c. search needs)  -- add-if2
+    (λ c κs. search needs)  -- both-zero-requires
+    (λ c κs. search needs)  -- both-zero-requires-2
+    (λ c κs. search needs)  -- value-requires
     (λ c. search needs)  -- mul-result
-    (λ c. simp (eq-eqb _ _ (c .before .before .before .before .if1 .taken), eq-eqb _ _ (c .before .if2 .taken)))  -- returns
-    (λ c. simp (eq-eqb _ _ (c .before .before .before .if1 .taken), ne-eqb _ _ (c .if2 .left)))  -- returns-2
-    (λ c. simp (ne-eqb _ _ (c .if1 .left))))  -- returns-3
+    returns
+    (λ c. rw (sym (c .before .before .before .both-zero .ensures) ∙ c .before .before .if1 .taken, sym (c .before .both-zero2 .ensures) ∙ c .if2 .left))  -- returns-2
+    (λ c. rw (sym (c .before .both-zero .ensures) ∙ c .if1 .left)))  -- returns-3
