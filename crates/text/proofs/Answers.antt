@@ -11,31 +11,32 @@ use lib.Seq.{sets, sets-eq}
 use Rattle.arith.specs.Bytes.{bytesOf, front}
 use Rattle.arith.proofs.Bytes.{bytes-length}
 use Rattle.gates.specs.Written.{rowNumbers}
-use Rattle.text.specs.Format.{line, each, File, tableauFile, listFile, FileFits, printFile, LaidOut}
-use Rattle.text.specs.Reads.{fullColumns, fileNumbers, readingOf, Reads, answerOf}
-use Rattle.text.specs.Scan.{Within, Held, run, turnOf, turnOut, openingOf, startOf}
+use Rattle.text.specs.Format.{line, concatenated, File, tableauFile, listFile, FileFits, printFile, LaidOut}
+use Rattle.text.specs.Convert.{fullColumns}
+use Rattle.text.specs.parts.Reads.{fileNumbers, readingOf, Reads, answerOf}
+use Rattle.text.specs.parts.Scan.{Within, Held, scanned, afterByte, outAfterByte, openingOf, startOf}
 use Rattle.text.specs.declared.reading.Form.the-variants.{Column, GateRow}
 use Rattle.text.specs.declared.reading.Reading.the-variants.{NoFile}
 use Rattle.text.specs.declared.reading.State.{State}
-use Rattle.text.proofs.Turns.{within-turn}
-use Rattle.text.proofs.Simulate.{st, held, rowsFull, tableau-run, list-run}
-use Rattle.text.proofs.Sound.{run-known, opening-known, Printed, finish}
+use Rattle.text.proofs.AfterByte.{within-byte}
+use Rattle.text.proofs.Simulate.{st, held, rowsFull, tableau-scanned, list-scanned}
+use Rattle.text.proofs.Sound.{scanned-known, opening-known, Printed, finish}
 
 -- what the reader comes to on a text of two bytes or more
-abbrev pub ranOn : List ℕ → List ℕ → Held
-ranOn text out = run (startOf (openingOf (getD text 0 0) (getD text 1 0))) out (drop 2 text)
+abbrev pub scannedText : List ℕ → List ℕ → Held
+scannedText text out = scanned (startOf (openingOf (getD text 0 0) (getD text 1 0))) out (drop 2 text)
 
 abbrev lastState : File → State
-lastState (tableauFile d n cs) = st Column d n (length cs) 0 (length (each (λ (x : List ℕ). x) cs)) (fullColumns n cs)
-lastState (listFile d n rs) = st GateRow d n (length rs) 0 (length (each rowNumbers rs)) (rowsFull n true rs)
+lastState (tableauFile d n cs) = st Column d n (length cs) 0 (length (concatenated (λ (x : List ℕ). x) cs)) (fullColumns n cs)
+lastState (listFile d n rs) = st GateRow d n (length rs) 0 (length (concatenated rowNumbers rs)) (rowsFull n true rs)
 
-print-run : (f : File) (out : List ℕ) → FileFits f → ranOn (printFile f) out ≡ held (lastState f) (sets out 0 (bytesOf (fileNumbers f)))
+print-scanned : (f : File) (out : List ℕ) → FileFits f → scannedText (printFile f) out ≡ held (lastState f) (sets out 0 (bytesOf (fileNumbers f)))
 unfolding line openingOf
-print-run (tableauFile d n cs) out fits = tableau-run d n cs out fits
-print-run (listFile d n rs) out fits = list-run d n rs out fits
+print-scanned (tableauFile d n cs) out fits = tableau-scanned d n cs out fits
+print-scanned (listFile d n rs) out fits = list-scanned d n rs out fits
 
-laid-run : (text out : List ℕ) (f : File) → LaidOut text f → ranOn text out ≡ held (lastState f) (sets out 0 (bytesOf (fileNumbers f)))
-laid-run text out f h = ap (λ (t : List ℕ). ranOn t out) (h .1 .1) ∙ print-run f out (h .1 .0)
+laid-scanned : (text out : List ℕ) (f : File) → LaidOut text f → scannedText text out ≡ held (lastState f) (sets out 0 (bytesOf (fileNumbers f)))
+laid-scanned text out f h = ap (λ (t : List ℕ). scannedText t out) (h .1 .1) ∙ print-scanned f out (h .1 .0)
 
 last-answer : (f : File) → answerOf (lastState f .field) (lastState f) ≡ readingOf f
 last-answer (tableauFile d n cs) = refl
@@ -46,19 +47,19 @@ last-count (tableauFile d n cs) = refl
 last-count (listFile d n rs) = refl
 
 -- every number of the text took two bytes of it
-within-run : (u : List ℕ) (i : ℕ) (s : State) (out : List ℕ) → Within i s → Within (i + length u) (run s out u .state)
-unfolding run
-within-run [] i s out w = rw add-zero w
-within-run (b ∷ u) i s out w =
+within-scanned : (u : List ℕ) (i : ℕ) (s : State) (out : List ℕ) → Within i s → Within (i + length u) (scanned s out u .state)
+unfolding scanned
+within-scanned [] i s out w = rw add-zero w
+within-scanned (b ∷ u) i s out w =
     let e : i + length (b ∷ u) ≡ i + 1 + length u = omega arith in
-    rw e (within-run u (i + 1) (turnOf s b) (turnOut s b out) (within-turn i s b w))
+    rw e (within-scanned u (i + 1) (afterByte s b) (outAfterByte s b out) (within-byte i s b w))
 
-within-text : (text out : List ℕ) → 2 ≤ length text → Within (length text) (ranOn text out .state)
+within-text : (text out : List ℕ) → 2 ≤ length text → Within (length text) (scannedText text out .state)
 within-text [] out h = absurd (omega arith)
 within-text (a ∷ []) out h = absurd (omega arith)
 within-text (a ∷ b ∷ u) out h =
     let e : length (a ∷ b ∷ u) ≡ 2 + length u = omega arith in
-    rw e (within-run u 2 (startOf (openingOf a b)) out (omega arith))
+    rw e (within-scanned u 2 (startOf (openingOf a b)) out (omega arith))
 
 written : (out a : List ℕ) → length a ≤ length out → sets out 0 a ≡ front a out
 written out a h = sets-eq a out 0 (omega arith) ∙ ap (λ (k : ℕ). a ++ drop k out) (zero-add (length a))
@@ -74,25 +75,25 @@ no-file : (f : File) → readingOf f ≡ NoFile → ⊥
 no-file (tableauFile d n cs) e = let z : _≡_ {A = ℕ} 0 1 = cc in omega arith
 no-file (listFile d n rs) e = let z : _≡_ {A = ℕ} 0 1 = cc in omega arith
 
-known-text : (text out : List ℕ) → 2 ≤ length text → Printed text ⊎ (answerOf (ranOn text out .state .field) (ranOn text out .state) ≡ NoFile)
+known-text : (text out : List ℕ) → 2 ≤ length text → Printed text ⊎ (answerOf (scannedText text out .state .field) (scannedText text out .state) ≡ NoFile)
 known-text [] out h = absurd (omega arith)
 known-text (a ∷ []) out h = absurd (omega arith)
-known-text (a ∷ b ∷ u) out h = finish (ranOn (a ∷ b ∷ u) out .state) (a ∷ b ∷ u) (run-known u (startOf (openingOf a b)) out (a ∷ b ∷ []) (opening-known a b))
+known-text (a ∷ b ∷ u) out h = finish (scannedText (a ∷ b ∷ u) out .state) (a ∷ b ∷ u) (scanned-known u (startOf (openingOf a b)) out (a ∷ b ∷ []) (opening-known a b))
 
 pub reads : (text out : List ℕ) → 2 ≤ length text → length text ≤ 65536 → length text ≤ length out
-    → Reads text out (answerOf (ranOn text out .state .field) (ranOn text out .state)) (ranOn text out .out)
+    → Reads text out (answerOf (scannedText text out .state .field) (scannedText text out .state)) (scannedText text out .out)
 reads text out h g r = go (known-text text out h)
   where
-    go : Printed text ⊎ (answerOf (ranOn text out .state .field) (ranOn text out .state) ≡ NoFile)
-        → Reads text out (answerOf (ranOn text out .state .field) (ranOn text out .state)) (ranOn text out .out)
+    go : Printed text ⊎ (answerOf (scannedText text out .state .field) (scannedText text out .state) ≡ NoFile)
+        → Reads text out (answerOf (scannedText text out .state .field) (scannedText text out .state)) (scannedText text out .out)
     go (inl p) =
         let f : File = p .0 in
         let laid : LaidOut text f = (g, p .1) in
-        let e = laid-run text out f laid in
+        let e = laid-scanned text out f laid in
         let c : lastState f .count ≡ length (fileNumbers f) = last-count f in
         let w = rw e at (within-text text out h) in
         rw (e, last-answer f) (reads-file text out f laid (omega (arith, w .counted, c, bytes-length (fileNumbers f))))
-    go (inr e) = rw e (λ f laid. no-file f (sym (last-answer f) ∙ ap (λ (x : Held). answerOf (x .state .field) (x .state)) (sym (laid-run text out f laid)) ∙ e))
+    go (inr e) = rw e (λ f laid. no-file f (sym (last-answer f) ∙ ap (λ (x : Held). answerOf (x .state .field) (x .state)) (sym (laid-scanned text out f laid)) ∙ e))
 
 -- a text of fewer than two bytes is no file's
 pub short : (text : List ℕ) → length text < 2 → (f : File) → LaidOut text f → ⊥

@@ -11,9 +11,10 @@ use borrow.Author.Tests.{eqb-true}
 use Rattle.arith.specs.Bytes.{tab, numberAt, bytesOf, front, numbersAt}
 use Rattle.arith.proofs.Bytes.{bytes-append, bytes-length, number-bytes, tab-ext, tab-list}
 use Rattle.gates.specs.Written.{WrittenRow, rowNumbers, rowAt}
-use Rattle.text.specs.Format.{File, tableauFile, listFile, each, LaidOut}
-use Rattle.text.specs.Reads.{fullColumns, fileNumbers, readingOf, Reads, ColumnsRead, RowsRead}
-use Rattle.text.specs.Prints.{columnsAt, tableauFileOf, listFileOf}
+use Rattle.text.specs.Format.{File, tableauFile, listFile, concatenated, LaidOut}
+use Rattle.text.specs.Convert.{fullColumns}
+use Rattle.text.specs.parts.Reads.{fileNumbers, readingOf, Reads, ColumnsRead, RowsRead}
+use Rattle.text.specs.parts.Prints.{columnsAt, tableauFileOf, listFileOf}
 use Rattle.text.specs.declared.reading.Reading.{Reading}
 use Rattle.text.specs.declared.reading.Reading.the-variants.{NoFile, Tableau, Rows}
 use Rattle.text.proofs.Unique.{one-file}
@@ -39,19 +40,19 @@ and-right true b e = e
 and-right false true e = refl
 and-right false false e = e
 
-pub full-length : (n : ℕ) (cs : List (List ℕ)) → fullColumns n cs ≡ true → length (each (λ (c : List ℕ). c) cs) ≡ length cs * (1 + 2 * n)
-unfolding fullColumns each
+pub full-length : (n : ℕ) (cs : List (List ℕ)) → fullColumns n cs ≡ true → length (concatenated (λ (c : List ℕ). c) cs) ≡ length cs * (1 + 2 * n)
+unfolding fullColumns concatenated
 full-length n [] e = sym (zero-mul (1 + 2 * n))
 full-length n (c ∷ cs) e =
     let a = and-left (eqb (length c) (1 + 2 * n)) (fullColumns n cs) e in
     let b = full-length n cs (and-right (eqb (length c) (1 + 2 * n)) (fullColumns n cs) e) in
     let h = eqb-true (length c) (1 + 2 * n) a in
-    omega (arith, h, b, length-append c (each (λ (c : List ℕ). c) cs))
+    omega (arith, h, b, length-append c (concatenated (λ (c : List ℕ). c) cs))
 
-pub rows-length : (rs : List WrittenRow) → length (each rowNumbers rs) ≡ 4 * length rs
-unfolding each
+pub rows-length : (rs : List WrittenRow) → length (concatenated rowNumbers rs) ≡ 4 * length rs
+unfolding concatenated
 rows-length [] = refl
-rows-length (r ∷ rs) = omega (arith, rows-length rs, length-append (rowNumbers r) (each rowNumbers rs))
+rows-length (r ∷ rs) = omega (arith, rows-length rs, length-append (rowNumbers r) (concatenated rowNumbers rs))
 
 -- ---- the buffer is long enough for them
 front-room : (a before out : List ℕ) → out ≡ front a before → length out ≡ length before → length a ≤ length before
@@ -59,12 +60,12 @@ front-room a before out e h = omega (arith, ap length e, h, length-append a (dro
 
 pub rows-room : (text before : List ℕ) (d n lines : ℕ) (out : List ℕ) → RowsRead text before d n lines out → length out ≡ length before → 8 * lines ≤ length out
 rows-room text before d n lines out r h =
-    let all : List ℕ = each rowNumbers (r .rows) in
+    let all : List ℕ = concatenated rowNumbers (r .rows) in
     omega (arith, h, front-room (bytesOf all) before out (r .holds) h, bytes-length all, rows-length (r .rows), r .counted)
 
 pub columns-room : (text before : List ℕ) (d n lines : ℕ) (out : List ℕ) → ColumnsRead text before d n lines true out → length out ≡ length before → 2 * (lines * (1 + 2 * n)) ≤ length out
 columns-room text before d n lines out r h =
-    let all : List ℕ = each (λ (c : List ℕ). c) (r .columns) in
+    let all : List ℕ = concatenated (λ (c : List ℕ). c) (r .columns) in
     rw (r .counted) (omega (arith, h, front-room (bytesOf all) before out (r .holds) h, bytes-length all, full-length n (r .columns) (sym (r .sized))))
 
 -- ---- the numbers in the bytes
@@ -96,12 +97,12 @@ row-next r b k = row-eq (rowAt (bytesOf (rowNumbers r) ++ b) (suc k)) (rowAt b k
     at : (i j : ℕ) → i ≡ 4 + j → numberAt (bytesOf (rowNumbers r) ++ b) i ≡ numberAt b j
     at i j e = ap (numberAt (bytesOf (rowNumbers r) ++ b)) e ∙ word-past (rowNumbers r) b j
 
-rows-back : (rs : List WrittenRow) (rest : List ℕ) → tab (rowAt (bytesOf (each rowNumbers rs) ++ rest)) (length rs) ≡ rs
-unfolding tab each
+rows-back : (rs : List WrittenRow) (rest : List ℕ) → tab (rowAt (bytesOf (concatenated rowNumbers rs) ++ rest)) (length rs) ≡ rs
+unfolding tab concatenated
 rows-back [] rest = refl
 rows-back (r ∷ rs) rest =
-    let b : List ℕ = bytesOf (each rowNumbers rs) ++ rest in
-    let e : bytesOf (rowNumbers r ++ each rowNumbers rs) ++ rest ≡ bytesOf (rowNumbers r) ++ b = ap (λ (l : List ℕ). l ++ rest) (bytes-append (rowNumbers r) (each rowNumbers rs)) ∙ append-assoc (bytesOf (rowNumbers r)) (bytesOf (each rowNumbers rs)) rest in
+    let b : List ℕ = bytesOf (concatenated rowNumbers rs) ++ rest in
+    let e : bytesOf (rowNumbers r ++ concatenated rowNumbers rs) ++ rest ≡ bytesOf (rowNumbers r) ++ b = ap (λ (l : List ℕ). l ++ rest) (bytes-append (rowNumbers r) (concatenated rowNumbers rs)) ∙ append-assoc (bytesOf (rowNumbers r)) (bytesOf (concatenated rowNumbers rs)) rest in
     ap (λ (l : List ℕ). tab (rowAt l) (length (r ∷ rs))) e
     ∙ ap₂ (λ (x : WrittenRow) (l : List WrittenRow). x ∷ l) (row-first r b) (tab-ext (λ k. rowAt (bytesOf (rowNumbers r) ++ b) (suc k)) (rowAt b) (length rs) (λ k h. row-next r b k) ∙ rows-back rs rest)
 
@@ -115,11 +116,11 @@ column-next m c b k e =
     tab-ext (λ i. numberAt (bytesOf c ++ b) (suc k * m + i)) (λ i. numberAt b (k * m + i)) m
     (λ i h. let q : suc k * m + i ≡ length c + (k * m + i) = omega (arith, e) in ap (numberAt (bytesOf c ++ b)) q ∙ word-past c b (k * m + i))
 
-pub columns-back : (n : ℕ) (cs : List (List ℕ)) (rest : List ℕ) → fullColumns n cs ≡ true → columnsAt (bytesOf (each (λ (c : List ℕ). c) cs) ++ rest) (1 + 2 * n) (length cs) ≡ cs
-unfolding tab each fullColumns
+pub columns-back : (n : ℕ) (cs : List (List ℕ)) (rest : List ℕ) → fullColumns n cs ≡ true → columnsAt (bytesOf (concatenated (λ (c : List ℕ). c) cs) ++ rest) (1 + 2 * n) (length cs) ≡ cs
+unfolding tab concatenated fullColumns
 columns-back n [] rest h = refl
 columns-back n (c ∷ cs) rest h =
-    let all : List ℕ = each (λ (c : List ℕ). c) cs in
+    let all : List ℕ = concatenated (λ (c : List ℕ). c) cs in
     let b : List ℕ = bytesOf all ++ rest in
     let m : ℕ = 1 + 2 * n in
     let l = eqb-true (length c) m (and-left (eqb (length c) m) (fullColumns n cs) h) in
@@ -135,4 +136,4 @@ list-back d n rs rest = ap (listFile d n) (rows-back rs rest)
 pub tableau-back : (d n : ℕ) (cs : List (List ℕ)) (rest : List ℕ) → fullColumns n cs ≡ true → length cs ≡ 2 * n
     → tableauFileOf d n (bytesOf (fileNumbers (tableauFile d n cs)) ++ rest) ≡ tableauFile d n cs
 tableau-back d n cs rest h e =
-    ap (tableauFile d n) (ap (columnsAt (bytesOf (each (λ (c : List ℕ). c) cs) ++ rest) (1 + 2 * n)) (sym e) ∙ columns-back n cs rest h)
+    ap (tableauFile d n) (ap (columnsAt (bytesOf (concatenated (λ (c : List ℕ). c) cs) ++ rest) (1 + 2 * n)) (sym e) ∙ columns-back n cs rest h)

@@ -1,4 +1,4 @@
-pub mod Turns
+pub mod AfterByte
 pub mod Digits
 pub mod Simulate
 pub mod Sound

@@ -11,9 +11,8 @@ use lib.Dec.{leb, eqb}
 use borrow.Author.Tests.{leb-true, leb-false, le-leb, lt-leb, eq-eqb}
 use Rattle.arith.specs.Bytes.{bytesOf, front}
 use Rattle.arith.specs.Answers.{Written}
-use Rattle.arith.specs.Refusals.{orElse, givenOf, listSizeOf, roomOf, rowOf, unlessHolds}
 use Rattle.arith.specs.declared.checks.Refusal.the-variants.{Length, Room}
-use Rattle.arith.proofs.Bytes.{bytes-length}
+use Rattle.arith.specs.Refusals.{orElse, givenOf, listSizeOf, roomOf, rowOf, unlessHolds}
 use Rattle.arith.proofs.Refusals.{given-good}
 use Rattle.pauli.specs.Pauli.{Pauli}
 use Rattle.pauli.specs.Bytes.{numbersOf}
@@ -26,11 +25,13 @@ use Rattle.tableau.specs.Calls.{tableauRefusal, tableauAnswer}
 use Rattle.tableau.proofs.Accepted.{tableau-accepted}
 use Rattle.tableau.proofs.Bytes.{tableau-small}
 use Rattle.tableau.proofs.Run.{tableau-formed}
-use Rattle.text.specs.Format.{tableauFile, each, printFile, printRefusal}
-use Rattle.text.specs.Reads.{fullColumns}
-use Rattle.text.specs.Prints.{Prints, tableauFileOf}
-use Rattle.text.specs.Convert.{RefusedOr, rowCountOf, listRefusal, tableauPrint, ListConverts}
-use Rattle.text.proofs.Back.{rows-length, tableau-back}
+use Rattle.text.specs.Format.{tableauFile, concatenated, printFile, printRefusal}
+use Rattle.text.specs.parts.Prints.{Prints, tableauFileOf}
+use Rattle.text.specs.Convert.{fullColumns, rowCountOf, listRefusal, tableauPrint}
+use Rattle.text.specs.parts.FromBytes.{outcomeOf, ListConverts}
+use Rattle.text.specs.declared.Outcome.{Outcome}
+use Rattle.text.specs.declared.Outcome.the-variants.{Done, Refused}
+use Rattle.text.proofs.Back.{tableau-back}
 
 -- ---- the first r bytes of the output are what was printed
 pub printed : {text old new : List ℕ} {r : ℕ} → Prints text old r new → take r new ≡ text
@@ -46,12 +47,21 @@ front-length k l h = sym (length-take-le k l h)
 pub front-room : (k : ℕ) (l : List ℕ) → k ≤ length l → k ≤ length (take k l)
 front-room k l h = omega (arith, length-take-le k l h)
 
--- ---- a refusal is printed, or nothing is refused
-pub refuses : {z k : ℕ} {output : List ℕ} {otherwise : Type 0} → z ≡ k → k ≢ 0 → output ≡ printRefusal k → RefusedOr z output otherwise
-refuses e h p = record { refused = λ n. p ∙ ap printRefusal (sym e); accepted = λ q. absurd (h (sym e ∙ q)) }
+-- ---- what a call's number x says: it is done where x is 0, and refused where it isn't
+pub done-none : (x : ℕ) {r : Outcome} → r ≡ outcomeOf x → r ≡ Done → x ≡ 0
+done-none zero e g = refl
+done-none (suc x) e g = let z : _≡_ {A = ℕ} 0 1 = cc in absurd (omega arith)
 
-pub accepts : {z : ℕ} {output : List ℕ} {otherwise : Type 0} → z ≡ 0 → otherwise → RefusedOr z output otherwise
-accepts e p = record { refused = λ n. absurd (n e); accepted = λ q. p }
+pub refused-some : (x : ℕ) {k : ℕ} {r : Outcome} → r ≡ outcomeOf x → r ≡ Refused k → x ≢ 0
+refused-some zero e g o = let z : _≡_ {A = ℕ} 0 1 = cc in omega arith
+refused-some (suc x) e g o = omega arith
+
+pub none-done : (x : ℕ) → x ≡ 0 → Done ≡ outcomeOf x
+none-done x e = rw e
+
+pub some-refused : (x : ℕ) → x ≢ 0 → Refused x ≡ outcomeOf x
+some-refused zero h = absurd (h refl)
+some-refused (suc x) h = refl
 
 -- past 1 and 2, or not past them
 pub given-first : (d n x y : ℕ) → (givenOf d n ≡ 0 → x ≡ y) → orElse (givenOf d n) x ≡ orElse (givenOf d n) y
@@ -79,10 +89,10 @@ pub has-room : (want have : ℕ) → want ≤ have → roomOf want have ≡ 0
 unfolding roomOf
 has-room want have h = ap (unlessHolds Room) (le-leb want have h)
 
-pub each-rows : (rows : List WrittenRow) → each rowNumbers rows ≡ listNumbers rows
-unfolding each listNumbers
-each-rows [] = refl
-each-rows (w ∷ ws) = ap (λ (l : List ℕ). rowNumbers w ++ l) (each-rows ws)
+pub rows-concatenated : (rows : List WrittenRow) → concatenated rowNumbers rows ≡ listNumbers rows
+unfolding concatenated listNumbers
+rows-concatenated [] = refl
+rows-concatenated (w ∷ ws) = ap (λ (l : List ℕ). rowNumbers w ++ l) (rows-concatenated ws)
 
 refusal-same : (d n : ℕ) (list : List ℕ) (rows : List WrittenRow) (room : ℕ) → list ≡ encodeRows rows → 2112 ≤ room → tableauRefusal d n list room ≡ listRefusal d n rows
 refusal-same d n list rows room e h = given-first d n _ _ (λ g. ap₂ orElse sized (ap₂ orElse (roomy (given-good g .width .n-high)) rowed))
@@ -97,10 +107,10 @@ refusal-same d n list rows room e h = given-first d n _ _ (λ g. ap₂ orElse si
     rowed = ap (λ (l : List WrittenRow). rowOf (allLegalRows d n l)) (ap listRows e ∙ list-encoded rows)
 
 -- ---- the tableau's bytes are its columns' numbers
-each-columns : (t : List Pauli) → each (λ (c : List ℕ). c) (map numbersOf t) ≡ tableauNumbers t
-unfolding each
-each-columns [] = refl
-each-columns (c ∷ cs) = ap (λ (l : List ℕ). numbersOf c ++ l) (each-columns cs)
+columns-concatenated : (t : List Pauli) → concatenated (λ (c : List ℕ). c) (map numbersOf t) ≡ tableauNumbers t
+unfolding concatenated
+columns-concatenated [] = refl
+columns-concatenated (c ∷ cs) = ap (λ (l : List ℕ). numbersOf c ++ l) (columns-concatenated cs)
 
 columns-full : {d n : ℕ} {t : List Pauli} → AllInRange d n t → fullColumns n (map numbersOf t) ≡ true
 unfolding fullColumns
@@ -110,14 +120,16 @@ columns-full {n = n} (more {c = c} r rs) = ap₂ (λ (a b : Bool). a && b) (eq-e
 columns-printed : {d n : ℕ} {t : List Pauli} (rest : List ℕ) → WellFormed d n t → tableauFileOf d n (encodeTableau t ++ rest) ≡ tableauFile d n (map numbersOf t)
 unfolding encodeTableau
 columns-printed {d} {n} {t} rest f =
-    ap (λ (xs : List ℕ). tableauFileOf d n (bytesOf xs ++ rest)) (sym (each-columns t))
+    ap (λ (xs : List ℕ). tableauFileOf d n (bytesOf xs ++ rest)) (sym (columns-concatenated t))
     ∙ tableau-back d n (map numbersOf t) rest (columns-full (f .ranges)) (length-map t numbersOf ∙ f .columns)
 
 -- ---- what is printed, where the call's answer is k
 module _ (d n : ℕ) (list old new : List ℕ) (k : ℕ) (w : Written (tableauRefusal d n list (length old)) (tableauAnswer d n list) old new k) where
   -- a refusal
   pub list-refused : {output : List ℕ} → 2112 ≤ length old → k ≢ 0 → output ≡ printRefusal k → ListConverts d n list output
-  list-refused h z p = λ rows e. refuses (sym (w .number ∙ refusal-same d n list rows (length old) e h)) z p
+  list-refused h z p = λ rows e.
+      let same : k ≡ listRefusal d n rows = w .number ∙ refusal-same d n list rows (length old) e h in
+      record { refused = λ r. p ∙ ap printRefusal same; accepted = λ r. absurd (z (same ∙ r)) }
 
   none-refused : k ≡ 0 → tableauRefusal d n list (length old) ≡ 0
   none-refused z = sym (w .number) ∙ z
@@ -131,7 +143,7 @@ module _ (d n : ℕ) (list old new : List ℕ) (k : ℕ) (w : Written (tableauRe
 
   -- the tableau
   pub list-printed : {output : List ℕ} → 2112 ≤ length old → k ≡ 0 → output ≡ printFile (tableauFileOf d n new) → ListConverts d n list output
-  list-printed {output} h z p = λ rows e. accepts (sym (refusal-same d n list rows (length old) e h) ∙ none-refused z) (prints rows e)
+  list-printed {output} h z p = λ rows e. record { refused = λ r. absurd (r (sym (refusal-same d n list rows (length old) e h) ∙ none-refused z)); accepted = λ r. prints rows e }
     where
       prints : (rows : List WrittenRow) → list ≡ encodeRows rows → output ≡ tableauPrint d n rows
       prints rows e =

@@ -8,12 +8,12 @@ use Prim.Native.Nat.{ℕ, _+_, _*_, _-_, _≤_, _<_}
 use native.Mathlib.Omega.{arith}
 use lib.Dec.{ltb, eqb}
 use lib.ListN.{length, length-append}
-use borrow.Author.Tests.{ltb-false, eqb-true, eqb-false}
+use borrow.Author.Tests.{ltb-false, eqb-true, eqb-false, ne-eqb}
 use Rattle.gates.specs.Written.{WrittenRow}
-use Rattle.text.specs.Format.{digits, line, letterOf, File, tableauFile, listFile, header, rowLine, columnLine, each, Every, Fits, ColumnFits, RowFits, FileFits, printFile}
-use Rattle.text.specs.Reads.{answerAt, answerOf}
+use Rattle.text.specs.Format.{digits, line, letterOf, File, tableauFile, listFile, header, rowLine, columnLine, concatenated, Every, Fits, ColumnFits, RowFits, FileFits, printFile}
+use Rattle.text.specs.parts.Reads.{answerAt, answerOf}
 use Rattle.text.specs.declared.reading.Reading.the-variants.{NoFile}
-use Rattle.text.specs.Scan.{kindOf, letterField, firstDigit, nextDigit, grownOf, valueOf, inHead, letterDue, afterComma, afterLine, brokenOf, grow, commaOf, headComma, bodyComma, lineOf, headLine, bodyLine, endedOf, turnOf, turnOut, run, openingOf, startOf}
+use Rattle.text.specs.parts.Scan.{kindOf, letterField, firstDigit, nextDigit, grownOf, valueOf, inHead, letterDue, afterLine, brokenOf, grow, commaOf, headComma, bodyComma, lineOf, headLine, bodyLine, endedOf, afterByte, outAfterByte, scanned, openingOf, startOf}
 use Rattle.text.specs.declared.reading.Form.{Form}
 use Rattle.text.specs.declared.reading.Form.the-variants.{TableHead, ListHead, Column, GateRow, Broken}
 use Rattle.text.specs.declared.reading.Field.{Field}
@@ -128,10 +128,10 @@ line-snoc [] x = refl
 line-snoc (y ∷ []) x = sym (append-assoc (digits y) (44 ∷ []) (digits x ++ (10 ∷ [])))
 line-snoc (y ∷ z ∷ zs) x = ap (λ (l : List ℕ). digits y ++ (44 ∷ l)) (line-snoc (z ∷ zs) x) ∙ sym (append-assoc (digits y) (44 ∷ commas (z ∷ zs)) (digits x ++ (10 ∷ [])))
 
-pub each-snoc : {A : Type 0} (f : A → List ℕ) (xs : List A) (x : A) → each f (xs ++ (x ∷ [])) ≡ each f xs ++ f x
-unfolding each
-each-snoc f [] x = append-nil (f x)
-each-snoc f (y ∷ ys) x = ap (λ (l : List ℕ). f y ++ l) (each-snoc f ys x) ∙ sym (append-assoc (f y) (each f ys) (f x))
+pub concatenated-snoc : {A : Type 0} (f : A → List ℕ) (xs : List A) (x : A) → concatenated f (xs ++ (x ∷ [])) ≡ concatenated f xs ++ f x
+unfolding concatenated
+concatenated-snoc f [] x = append-nil (f x)
+concatenated-snoc f (y ∷ ys) x = ap (λ (l : List ℕ). f y ++ l) (concatenated-snoc f ys x) ∙ sym (append-assoc (f y) (concatenated f ys) (f x))
 
 pub every-snoc : {A : Type 0} (P : A → Type 0) (xs : List A) (x : A) → Every P xs → P x → Every P (xs ++ (x ∷ []))
 unfolding Every
@@ -149,34 +149,41 @@ pub data Base : Form → ℕ → ℕ → ℕ → List ℕ → Type 0 where
   list-d : {d n : ℕ} → Base ListHead 0 d n (76 ∷ 44 ∷ [])
   list-n : {d n : ℕ} → Fits d → Base ListHead 1 d n (76 ∷ 44 ∷ (digits d ++ (44 ∷ [])))
   column : {p d n : ℕ} {t : List ℕ} (cs : List (List ℕ)) (xs : List ℕ) → (Fits d × Fits n) × Every ColumnFits cs → Every Fits xs
-      → p ≡ length xs → t ≡ (header 84 d n ++ each columnLine cs) ++ commas xs → Base Column p d n t
-  row-0 : {d n : ℕ} {t : List ℕ} (rs : List WrittenRow) → (Fits d × Fits n) × Every RowFits rs → t ≡ header 76 d n ++ each rowLine rs → Base GateRow 0 d n t
+      → p ≡ length xs → t ≡ (header 84 d n ++ concatenated columnLine cs) ++ commas xs → Base Column p d n t
+  row-0 : {d n : ℕ} {t : List ℕ} (rs : List WrittenRow) → (Fits d × Fits n) × Every RowFits rs → t ≡ header 76 d n ++ concatenated rowLine rs → Base GateRow 0 d n t
   row-1 : {d n : ℕ} {t : List ℕ} (rs : List WrittenRow) (k : ℕ) → (Fits d × Fits n) × Every RowFits rs → (1 ≤ k) × (k ≤ 6)
-      → t ≡ (header 76 d n ++ each rowLine rs) ++ (letterOf k ∷ 44 ∷ []) → Base GateRow 1 d n t
+      → t ≡ (header 76 d n ++ concatenated rowLine rs) ++ (letterOf k ∷ 44 ∷ []) → Base GateRow 1 d n t
   row-2 : {d n : ℕ} {t : List ℕ} (rs : List WrittenRow) (k a : ℕ) → (Fits d × Fits n) × Every RowFits rs → (1 ≤ k) × (k ≤ 6) → Fits a
-      → t ≡ (header 76 d n ++ each rowLine rs) ++ (letterOf k ∷ 44 ∷ (digits a ++ (44 ∷ []))) → Base GateRow 2 d n t
+      → t ≡ (header 76 d n ++ concatenated rowLine rs) ++ (letterOf k ∷ 44 ∷ (digits a ++ (44 ∷ []))) → Base GateRow 2 d n t
   row-3 : {d n : ℕ} {t : List ℕ} (rs : List WrittenRow) (k a b : ℕ) → (Fits d × Fits n) × Every RowFits rs → (1 ≤ k) × (k ≤ 6) → Fits a → Fits b
-      → t ≡ (header 76 d n ++ each rowLine rs) ++ (letterOf k ∷ 44 ∷ (digits a ++ (44 ∷ (digits b ++ (44 ∷ []))))) → Base GateRow 3 d n t
+      → t ≡ (header 76 d n ++ concatenated rowLine rs) ++ (letterOf k ∷ 44 ∷ (digits a ++ (44 ∷ (digits b ++ (44 ∷ []))))) → Base GateRow 3 d n t
+  -- a line with too many fields, which its line feed will break
+  table-over : {p d n : ℕ} {t : List ℕ} → 1 < p → Base TableHead p d n t
+  list-over : {p d n : ℕ} {t : List ℕ} → 1 < p → Base ListHead p d n t
+  row-over : {p d n : ℕ} {t : List ℕ} → 3 < p → Base GateRow p d n t
   lost : {p d n : ℕ} {t : List ℕ} → Base Broken p d n t
 
 pub comma-base : {form : Form} {p d n : ℕ} {t : List ℕ} (x : ℕ) (w : List ℕ) → Base form p d n t → Word (letterDue form p) x w
-    → Base (afterComma form p) (p + 1) (cond (inHead form) x d) n (t ++ (w ++ (44 ∷ [])))
-unfolding each
+    → Base form (p + 1) (cond (inHead form) x d) n (t ++ (w ++ (44 ∷ [])))
+unfolding concatenated
 comma-base x w table-d h = rw (h .1) (table-n (h .0))
-comma-base x w (table-n f) h = lost
+comma-base x w (table-n f) h = table-over {p = 2} (omega arith)
 comma-base x w list-d h = rw (h .1) (list-n (h .0))
-comma-base x w (list-n f) h = lost
+comma-base x w (list-n f) h = list-over {p = 2} (omega arith)
 comma-base {p = p} {d = d} {n = n} {t = t} x w (column cs xs fs fx e q) h =
     let z : p + 1 ≡ length (xs ++ (x ∷ [])) = omega (arith, length-append xs (x ∷ [])) in
     column cs (xs ++ (x ∷ [])) fs (every-snoc Fits xs x fx (h .0)) z
-    (ap₂ (λ (u v : List ℕ). u ++ (v ++ (44 ∷ []))) q (h .1) ∙ rw (commas-snoc xs x) (append-assoc (header 84 d n ++ each columnLine cs) (commas xs) (digits x ++ (44 ∷ []))))
+    (ap₂ (λ (u v : List ℕ). u ++ (v ++ (44 ∷ []))) q (h .1) ∙ rw (commas-snoc xs x) (append-assoc (header 84 d n ++ concatenated columnLine cs) (commas xs) (digits x ++ (44 ∷ []))))
 comma-base {d = d} {n = n} x w (row-0 rs fs q) h = row-1 rs x fs (h .0) (ap₂ (λ (u v : List ℕ). u ++ (v ++ (44 ∷ []))) q (h .1))
 comma-base {d = d} {n = n} x w (row-1 rs k fs r q) h =
-    row-2 rs k x fs r (h .0) (ap₂ (λ (u v : List ℕ). u ++ (v ++ (44 ∷ []))) q (h .1) ∙ append-assoc (header 76 d n ++ each rowLine rs) (letterOf k ∷ 44 ∷ []) (digits x ++ (44 ∷ [])))
+    row-2 rs k x fs r (h .0) (ap₂ (λ (u v : List ℕ). u ++ (v ++ (44 ∷ []))) q (h .1) ∙ append-assoc (header 76 d n ++ concatenated rowLine rs) (letterOf k ∷ 44 ∷ []) (digits x ++ (44 ∷ [])))
 comma-base {d = d} {n = n} x w (row-2 rs k a fs r fa q) h =
-    row-3 rs k a x fs r fa (h .0) (ap₂ (λ (u v : List ℕ). u ++ (v ++ (44 ∷ []))) q (h .1) ∙ append-assoc (header 76 d n ++ each rowLine rs) (letterOf k ∷ 44 ∷ (digits a ++ (44 ∷ []))) (digits x ++ (44 ∷ []))
-    ∙ ap (λ (l : List ℕ). (header 76 d n ++ each rowLine rs) ++ (letterOf k ∷ 44 ∷ l)) (append-assoc (digits a) (44 ∷ []) (digits x ++ (44 ∷ []))))
-comma-base x w (row-3 rs k a b fs r fa fb q) h = lost
+    row-3 rs k a x fs r fa (h .0) (ap₂ (λ (u v : List ℕ). u ++ (v ++ (44 ∷ []))) q (h .1) ∙ append-assoc (header 76 d n ++ concatenated rowLine rs) (letterOf k ∷ 44 ∷ (digits a ++ (44 ∷ []))) (digits x ++ (44 ∷ []))
+    ∙ ap (λ (l : List ℕ). (header 76 d n ++ concatenated rowLine rs) ++ (letterOf k ∷ 44 ∷ l)) (append-assoc (digits a) (44 ∷ []) (digits x ++ (44 ∷ []))))
+comma-base x w (row-3 rs k a b fs r fa fb q) h = row-over {p = 4} (omega arith)
+comma-base {p = p} x w (table-over o) h = table-over {p = p + 1} (omega arith)
+comma-base {p = p} x w (list-over o) h = list-over {p = p + 1} (omega arith)
+comma-base {p = p} x w (row-over o) h = row-over {p = p + 1} (omega arith)
 comma-base x w lost h = lost
 
 pub header-text : (c d x : ℕ) → (c ∷ 44 ∷ (digits d ++ (44 ∷ []))) ++ (digits x ++ (10 ∷ [])) ≡ header c d x
@@ -188,13 +195,13 @@ unfolding line
 row-text r = simp append-assoc
 
 -- a line more
-lines-more : {A : Type 0} (f : A → List ℕ) (head : List ℕ) (xs : List A) (x : A) (a b : List ℕ) → a ++ b ≡ f x → ((head ++ each f xs) ++ a) ++ b ≡ head ++ each f (xs ++ (x ∷ []))
+lines-more : {A : Type 0} (f : A → List ℕ) (head : List ℕ) (xs : List A) (x : A) (a b : List ℕ) → a ++ b ≡ f x → ((head ++ concatenated f xs) ++ a) ++ b ≡ head ++ concatenated f (xs ++ (x ∷ []))
 lines-more f head xs x a b e =
-    append-assoc (head ++ each f xs) a b ∙ ap (λ (l : List ℕ). (head ++ each f xs) ++ l) e ∙ append-assoc head (each f xs) (f x) ∙ ap (λ (l : List ℕ). head ++ l) (sym (each-snoc f xs x))
+    append-assoc (head ++ concatenated f xs) a b ∙ ap (λ (l : List ℕ). (head ++ concatenated f xs) ++ l) e ∙ append-assoc head (concatenated f xs) (f x) ∙ ap (λ (l : List ℕ). head ++ l) (sym (concatenated-snoc f xs x))
 
 pub line-base : {form : Form} {p d n : ℕ} {t : List ℕ} (x : ℕ) (w : List ℕ) → Base form p d n t → Word (letterDue form p) x w
     → Base (afterLine form p) 0 d (cond (inHead form) x n) (t ++ (w ++ (10 ∷ [])))
-unfolding each commas
+unfolding concatenated commas
 line-base x w table-d h = lost
 line-base {d = d} x w (table-n f) h =
     column [] [] ((f, h .0), none ColumnFits) (none Fits) refl
@@ -204,7 +211,7 @@ line-base {d = d} x w (list-n f) h = row-0 [] ((f, h .0), none RowFits) (ap (λ 
 line-base {p = p} {d = d} {n = n} {t = t} x w (column cs xs fs fx e q) h =
     let z : 0 < length (xs ++ (x ∷ [])) = omega (arith, length-append xs (x ∷ [])) in
     column (cs ++ ((xs ++ (x ∷ [])) ∷ [])) [] (fs .0, every-snoc ColumnFits cs (xs ++ (x ∷ [])) (fs .1) (z, every-snoc Fits xs x fx (h .0))) (none Fits) refl
-    (ap₂ (λ (u v : List ℕ). u ++ (v ++ (10 ∷ []))) q (h .1) ∙ lines-more columnLine (header 84 d n) cs (xs ++ (x ∷ [])) (commas xs) (digits x ++ (10 ∷ [])) (sym (line-snoc xs x)) ∙ sym (append-nil (header 84 d n ++ each columnLine (cs ++ ((xs ++ (x ∷ [])) ∷ [])))))
+    (ap₂ (λ (u v : List ℕ). u ++ (v ++ (10 ∷ []))) q (h .1) ∙ lines-more columnLine (header 84 d n) cs (xs ++ (x ∷ [])) (commas xs) (digits x ++ (10 ∷ [])) (sym (line-snoc xs x)) ∙ sym (append-nil (header 84 d n ++ concatenated columnLine (cs ++ ((xs ++ (x ∷ [])) ∷ [])))))
 line-base x w (row-0 rs fs q) h = lost
 line-base x w (row-1 rs k fs r q) h = lost
 line-base x w (row-2 rs k a fs r fa q) h = lost
@@ -212,6 +219,9 @@ line-base {d = d} {n = n} x w (row-3 rs k a b fs r fa fb q) h =
     let row : WrittenRow = record { kind = k; first = a; second = b; power = x } in
     row-0 (rs ++ (row ∷ [])) (fs .0, every-snoc RowFits rs row (fs .1) (r, (fa, (fb, h .0))))
     (ap₂ (λ (u v : List ℕ). u ++ (v ++ (10 ∷ []))) q (h .1) ∙ lines-more rowLine (header 76 d n) rs row (letterOf k ∷ 44 ∷ (digits a ++ (44 ∷ (digits b ++ (44 ∷ []))))) (digits x ++ (10 ∷ [])) (row-text row))
+line-base {p = p} x w (table-over o) h = rw (ne-eqb p 1 (λ e. omega arith)) lost
+line-base {p = p} x w (list-over o) h = rw (ne-eqb p 1 (λ e. omega arith)) lost
+line-base {p = p} x w (row-over o) h = rw (ne-eqb p 3 (λ e. omega arith)) lost
 line-base x w lost h = lost
 
 -- ---- the whole text
@@ -251,7 +261,7 @@ comma-known s text x e k =
     q : text ++ (44 ∷ []) ≡ k .before ++ (k .word ++ (44 ∷ []))
     q = ap (λ (l : List ℕ). l ++ (44 ∷ [])) (k .all) ∙ append-assoc (k .before) (k .word) (44 ∷ [])
 
-    go : (h : Bool) → Base (afterComma (s .form) (s .place)) (s .place + 1) (cond h x (s .d)) (s .n) (k .before ++ (k .word ++ (44 ∷ []))) → Known (cond h (headComma s x) (bodyComma s x)) (text ++ (44 ∷ []))
+    go : (h : Bool) → Base (s .form) (s .place + 1) (cond h x (s .d)) (s .n) (k .before ++ (k .word ++ (44 ∷ []))) → Known (cond h (headComma s x) (bodyComma s x)) (text ++ (44 ∷ []))
     go true b = fresh (headComma s x) (k .before ++ (k .word ++ (44 ∷ []))) (text ++ (44 ∷ [])) refl b q
     go false b = fresh (bodyComma s x) (k .before ++ (k .word ++ (44 ∷ []))) (text ++ (44 ∷ [])) refl b q
 
@@ -280,19 +290,19 @@ line-ended : (s : State) (text : List ℕ) (v : Value) → valueOf (s .field) �
 line-ended s text Missing e k = broken-known s text 10 k
 line-ended s text (Is x) e k = line-known s text x e k
 
-turn-known : (s : State) (text : List ℕ) (b : ℕ) → Known s text → Known (turnOf s b) (text ++ (b ∷ []))
-unfolding turnOf
-turn-known s text b k =
+byte-known : (s : State) (text : List ℕ) (b : ℕ) → Known s text → Known (afterByte s b) (text ++ (b ∷ []))
+unfolding afterByte
+byte-known s text b k =
     test (λ (t : Bool). Known (cond t (endedOf s (valueOf (s .field)) 44) (cond (eqb b 10) (endedOf s (valueOf (s .field)) 10) (grow s b))) (text ++ (b ∷ []))) (eqb b 44)
     (λ e. rw (eqb-true b 44 e) (comma-ended s text (valueOf (s .field)) refl k))
     (λ e. test (λ (t : Bool). Known (cond t (endedOf s (valueOf (s .field)) 10) (grow s b)) (text ++ (b ∷ []))) (eqb b 10)
     (λ z. rw (eqb-true b 10 z) (line-ended s text (valueOf (s .field)) refl k))
     (λ z. grow-known s text b k))
 
-pub run-known : (u : List ℕ) (s : State) (out text : List ℕ) → Known s text → Known (run s out u .state) (text ++ u)
-unfolding run
-run-known [] s out text k = rw append-nil k
-run-known (b ∷ u) s out text k = rw append-assoc at (run-known u (turnOf s b) (turnOut s b out) (text ++ (b ∷ [])) (turn-known s text b k))
+pub scanned-known : (u : List ℕ) (s : State) (out text : List ℕ) → Known s text → Known (scanned s out u .state) (text ++ u)
+unfolding scanned
+scanned-known [] s out text k = rw append-nil k
+scanned-known (b ∷ u) s out text k = rw append-assoc at (scanned-known u (afterByte s b) (outAfterByte s b out) (text ++ (b ∷ [])) (byte-known s text b k))
 
 pub opening-known : (a b : ℕ) → Known (startOf (openingOf a b)) (a ∷ b ∷ [])
 unfolding openingOf
@@ -318,12 +328,15 @@ finish-line s table-d e = inr refl
 finish-line s (table-n f) e = inr refl
 finish-line s list-d e = inr refl
 finish-line s (list-n f) e = inr refl
-finish-line {d = d} {n = n} s (column cs [] fs fx z q) e = inl (tableauFile d n cs, (fs, q ∙ append-nil (header 84 d n ++ each columnLine cs)))
+finish-line {d = d} {n = n} s (column cs [] fs fx z q) e = inl (tableauFile d n cs, (fs, q ∙ append-nil (header 84 d n ++ concatenated columnLine cs)))
 finish-line s (column cs (x ∷ xs) fs fx z q) e = absurd (omega arith)
 finish-line {d = d} {n = n} s (row-0 rs fs q) e = inl (listFile d n rs, (fs, q))
 finish-line s (row-1 rs k fs r q) e = absurd (omega arith)
 finish-line s (row-2 rs k a fs r fa q) e = absurd (omega arith)
 finish-line s (row-3 rs k a b fs r fa fb q) e = absurd (omega arith)
+finish-line s (table-over o) e = inr refl
+finish-line s (list-over o) e = inr refl
+finish-line s (row-over o) e = absurd (omega arith)
 finish-line s lost e = inr refl
 
 pub finish : (s : State) (text : List ℕ) → Known s text → Printed text ⊎ (answerOf (s .field) s ≡ NoFile)

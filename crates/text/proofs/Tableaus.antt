@@ -1,6 +1,6 @@
 -- What the text program prints for a T file: a list that does the tableau, or a refusal. Assumes nothing.
 use mathlib.Core.Path.{_≡_, sym, ap, ap₂, subst, _∙_}
-use mathlib.Core.Logic.{_≢_}
+use mathlib.Core.Logic.{_↔_, _⊎_, inl, inr, _≢_}
 use mathlib.Core.Bool.{Bool, true, false}
 use mathlib.Core.List.{List, [], _∷_, _++_, map, append-nil}
 use Prim.Native.Nat.{ℕ, suc, _+_, _*_, _/_, _≤_}
@@ -10,14 +10,14 @@ use lib.Seq.{take-at, drop-at}
 use borrow.Author.Tests.{eq-eqb}
 use borrow.Author.Needs.{needs}
 use Rattle.arith.specs.Bytes.{tab, numberAt, numbersAt, bytesOf}
+use Rattle.arith.specs.declared.checks.Refusal.{Refusal}
+use Rattle.arith.specs.declared.checks.Refusal.the-variants.{Length}
 use Rattle.arith.specs.Refusals.{numberOf, orElse, givenOf, sizeOf, roomOf, unlessHolds}
 use Rattle.arith.specs.declared.checks.Check.{Check}
 use Rattle.arith.specs.declared.checks.Check.the-variants.{Good, Refused}
-use Rattle.arith.specs.declared.checks.Refusal.{Refusal}
-use Rattle.arith.specs.declared.checks.Refusal.the-variants.{Length}
 use Rattle.arith.specs.declared.checks.Answer.{Answer}
 use Rattle.arith.proofs.Bytes.{tab-cons, tab-append, tab-ext, tab-length, tab-map, bytes-length}
-use Rattle.arith.proofs.Refusals.{Given, good, stop, orElse-none, orElse-assoc, given-good, size-good, held, both-held}
+use Rattle.arith.proofs.Refusals.{Given, good, stop, not-zero, orElse-none, orElse-assoc, given-good, size-good, held, both-held}
 use Rattle.pauli.specs.Pauli.{Pauli}
 use Rattle.pauli.specs.Bytes.{decodeAt}
 use Rattle.gates.specs.Row.{Row, F, S, A, M, X, Z, Legal}
@@ -26,15 +26,16 @@ use Rattle.gates.proofs.Written.{written-meant, legal-meant}
 use Rattle.tableau.specs.Bytes.{tableauBytes, columnAt, decodeTableau}
 use Rattle.tableau.specs.Range.{tableauRangeOf}
 use Rattle.tableau.specs.Soundness.{soundnessOf}
-use Rattle.synthesis.specs.Demand3.{synthesisRefusal, handed, Synthesised}
+use Rattle.synthesis.specs.Demand3.{Realisable, malformedOf, synthesisRefusal, handed, Synthesised}
 use Rattle.synthesis.proofs.Handed.{accepted-given, square-small}
-use Rattle.text.specs.Format.{digits, line, listFile, header, rowLine, each, Every, RowFits, printFile, printRefusal}
-use Rattle.text.specs.Reads.{fullColumns}
-use Rattle.text.specs.Prints.{columnsAt, listFileOf}
-use Rattle.text.specs.Convert.{pauliOf, countsOf, columnsRefusal, PrintsList, TableauConverts, ColumnsConvert}
+use Rattle.text.specs.Format.{digits, line, listFile, header, rowLine, concatenated, Every, RowFits, printFile, printRefusal}
+use Rattle.text.specs.parts.Prints.{columnsAt, listFileOf}
+use Rattle.text.specs.Convert.{fullColumns, pauliOf, countsOf, columnsMalformed, columnsRefusal, PrintsList}
+use Rattle.text.specs.parts.FromBytes.{TableauConverts, ColumnsConvert}
 use Rattle.text.proofs.Digits.{five-digits}
 use Rattle.text.proofs.Back.{full-length, columns-back}
-use Rattle.text.proofs.Lists.{refuses, accepts, given-first, has-room}
+use Rattle.text.proofs.Lists.{given-first, has-room}
+use Rattle.text.proofs.Unique.{refusal-unique, refusal-no-list}
 
 -- ---- the tableau in the bytes is that of the columns
 module _ (n k : ℕ) (b : List ℕ) where
@@ -63,9 +64,9 @@ tableau-decoded n b =
     tab-map (pauliOf n) (λ j. numbersAt b (j * (1 + 2 * n)) (1 + 2 * n)) (2 * n)
     ∙ tab-ext (λ j. pauliOf n (numbersAt b (j * (1 + 2 * n)) (1 + 2 * n))) (λ j. columnAt n j b) (2 * n) (λ j h. pauli-decoded n (j * (1 + 2 * n)) b)
 
-columns-decoded : (n : ℕ) (columns : List (List ℕ)) → fullColumns n columns ≡ true → length columns ≡ 2 * n → decodeTableau n (bytesOf (each (λ (c : List ℕ). c) columns)) ≡ map (pauliOf n) columns
+columns-decoded : (n : ℕ) (columns : List (List ℕ)) → fullColumns n columns ≡ true → length columns ≡ 2 * n → decodeTableau n (bytesOf (concatenated (λ (c : List ℕ). c) columns)) ≡ map (pauliOf n) columns
 columns-decoded n columns f e =
-    let b : List ℕ = bytesOf (each (λ (c : List ℕ). c) columns) in
+    let b : List ℕ = bytesOf (concatenated (λ (c : List ℕ). c) columns) in
     sym (tableau-decoded n b)
     ∙ ap (map (pauliOf n)) (ap (columnsAt b (1 + 2 * n)) (sym e) ∙ ap (λ (l : List ℕ). columnsAt l (1 + 2 * n) (length columns)) (sym (append-nil b)) ∙ columns-back n columns [] f)
 
@@ -91,23 +92,22 @@ unfolding countsOf
 counts-short n count full e = rw e
 
 -- ---- the refusals of a tableau are those of its columns
-module _ (d n : ℕ) (bytes : List ℕ) (columns : List (List ℕ)) (full : fullColumns n columns ≡ true) (many : length columns ≡ 2 * n) (same : bytes ≡ bytesOf (each (λ (c : List ℕ). c) columns)) where
+module _ (d n : ℕ) (bytes : List ℕ) (columns : List (List ℕ)) (full : fullColumns n columns ≡ true) (many : length columns ≡ 2 * n) (same : bytes ≡ bytesOf (concatenated (λ (c : List ℕ). c) columns)) where
   sized : length bytes ≡ tableauBytes n
-  sized = ap length same ∙ bytes-length (each (λ (c : List ℕ). c) columns) ∙ ap (λ (k : ℕ). 2 * k) (full-length n columns full ∙ ap (λ (k : ℕ). k * (1 + 2 * n)) many)
+  sized = ap length same ∙ bytes-length (concatenated (λ (c : List ℕ). c) columns) ∙ ap (λ (k : ℕ). 2 * k) (full-length n columns full ∙ ap (λ (k : ℕ). k * (1 + 2 * n)) many)
 
   decoded : decodeTableau n bytes ≡ map (pauliOf n) columns
   decoded = ap (decodeTableau n) same ∙ columns-decoded n columns full many
 
-  refusal-same : (room : ℕ) → 11008 ≤ room → synthesisRefusal d n bytes room ≡ columnsRefusal d n columns
-  refusal-same room large =
-      let s = sizeOf (tableauBytes n) (length bytes) in
-      let t = decodeTableau n bytes in
-      orElse-assoc (givenOf d n) (orElse s (orElse (roomOf (40 * (n * n) + 48 * n) room) (tableauRangeOf d t))) (soundnessOf d n t)
-      ∙ given-first d n _ _ (λ e. rest (given-good e .width .n-high))
+  malformed-same : (room : ℕ) → 11008 ≤ room → malformedOf d n bytes room ≡ columnsMalformed d n columns
+  malformed-same room large = given-first d n _ _ (λ e. rest (given-good e .width .n-high))
     where
-      rest : n ≤ 16 → orElse (orElse (sizeOf (tableauBytes n) (length bytes)) (orElse (roomOf (40 * (n * n) + 48 * n) room) (tableauRangeOf d (decodeTableau n bytes)))) (soundnessOf d n (decodeTableau n bytes))
-          ≡ orElse (countsOf n (length columns) (fullColumns n columns)) (orElse (tableauRangeOf d (map (pauliOf n) columns)) (soundnessOf d n (map (pauliOf n) columns)))
+      rest : n ≤ 16 → orElse (sizeOf (tableauBytes n) (length bytes)) (orElse (roomOf (40 * (n * n) + 48 * n) room) (tableauRangeOf d (decodeTableau n bytes)))
+          ≡ orElse (countsOf n (length columns) (fullColumns n columns)) (tableauRangeOf d (map (pauliOf n) columns))
       rest h = rw (size-holds (tableauBytes n) (length bytes) sized, has-room (40 * (n * n) + 48 * n) room (omega (arith, large, square-small n h)), decoded, counts-hold n (length columns) (fullColumns n columns) full many)
+
+  refusal-same : (room : ℕ) → 11008 ≤ room → synthesisRefusal d n bytes room ≡ columnsRefusal d n columns
+  refusal-same room large = ap₂ orElse (malformed-same room large) (ap (soundnessOf d n) decoded)
 
 -- ---- legal rows fit the format, and are few bytes
 legal-fits : (d n : ℕ) (w : WrittenRow) (r : Row) → d ≤ 1024 → n ≤ 16 → w ≡ written r → Legal d n r → RowFits w
@@ -138,16 +138,16 @@ row-length r f =
     let b : List ℕ = digits (r .second) ++ (44 ∷ c) in
     omega (arith, field-length (r .power) (10 ∷ []) (f .1 .1 .1), field-length (r .second) (44 ∷ c) (f .1 .1 .0), field-length (r .first) (44 ∷ b) (f .1 .0))
 
-rows-length : (rows : List WrittenRow) → Every RowFits rows → length (each rowLine rows) ≤ 20 * length rows
-unfolding each Every
+rows-length : (rows : List WrittenRow) → Every RowFits rows → length (concatenated rowLine rows) ≤ 20 * length rows
+unfolding concatenated Every
 rows-length [] f = omega arith
-rows-length (r ∷ rs) f = omega (arith, length-append (rowLine r) (each rowLine rs), row-length r (f .0), rows-length rs (f .1))
+rows-length (r ∷ rs) f = omega (arith, length-append (rowLine r) (concatenated rowLine rs), row-length r (f .0), rows-length rs (f .1))
 
 list-length : (d n : ℕ) (rows : List WrittenRow) → d ≤ 65535 → n ≤ 65535 → Every RowFits rows → length (printFile (listFile d n rows)) ≤ 14 + 20 * length rows
 unfolding line
 list-length d n rows hd hn f =
     let c : List ℕ = digits n ++ (10 ∷ []) in
-    omega (arith, length-append (header 76 d n) (each rowLine rows), field-length n (10 ∷ []) hn, field-length d (44 ∷ c) hd, rows-length rows f)
+    omega (arith, length-append (header 76 d n) (concatenated rowLine rows), field-length n (10 ∷ []) hn, field-length d (44 ∷ c) hd, rows-length rows f)
 
 -- ---- what is printed
 -- the counts are wrong, or 1 or 2
@@ -155,10 +155,17 @@ pub columns-refused : (d n count : ℕ) (full : Bool) (numbers : List ℕ) {r : 
     → output ≡ printRefusal (numberOf r) → ColumnsConvert d n count full numbers output
 columns-refused d n count full numbers {output = output} e f p = λ columns rest c q same.
     let x = orElse (givenOf d n) (countsOf n count full) in
-    let y = orElse (tableauRangeOf d (map (pauliOf n) columns)) (soundnessOf d n (map (pauliOf n) columns)) in
-    let s = stop x y e f in
-    let z : columnsRefusal d n columns ≡ orElse x y = sym (orElse-assoc (givenOf d n) (countsOf n count full) y ∙ ap₂ (λ (m : ℕ) (t : Bool). orElse (givenOf d n) (orElse (countsOf n m t) y)) c q) in
-    refuses z (λ o. let v = rw o at (s .value 1) in absurd (omega (arith, v))) (p ∙ ap printRefusal (s .same))
+    let t = map (pauliOf n) columns in
+    let y = orElse (tableauRangeOf d t) (soundnessOf d n t) in
+    let some : x ≢ 0 = λ o. not-zero (e ∙ o) f in
+    let m : columnsMalformed d n columns ≡ orElse x (tableauRangeOf d t)
+    = sym (orElse-assoc (givenOf d n) (countsOf n count full) (tableauRangeOf d t) ∙ ap₂ (λ (k : ℕ) (b : Bool). orElse (givenOf d n) (orElse (countsOf n k b) (tableauRangeOf d t))) c q) in
+    let z : columnsRefusal d n columns ≡ orElse x y = ap (λ (k : ℕ). orElse k (soundnessOf d n t)) m ∙ orElse-assoc x (tableauRangeOf d t) (soundnessOf d n t) in
+    record {
+      refused = λ r. p ∙ ap printRefusal (stop x y e f .same ∙ sym z);
+      accepted = λ r. absurd (some (orElse-none x y (sym z ∙ r) .0));
+      unrealisable = λ r. absurd (some (orElse-none x (tableauRangeOf d t) (sym m ∙ r) .0));
+    }
 
 -- past the counts: the bytes at the buffer's front are the tableau's
 pub columns-passed : (d n count : ℕ) (full : Bool) {r : Check} → numberOf r ≡ orElse (givenOf d n) (countsOf n count full) → r ≡ Good → Given d n × ((full ≡ true) × (count ≡ 2 * n))
@@ -172,7 +179,7 @@ columns-bytes n count room e h = rw e at h
 pub columns-tableau : (d n count : ℕ) (full : Bool) (numbers output : List ℕ) → full ≡ true → count ≡ 2 * n → TableauConverts d n (take (2 * (2 * n * (1 + 2 * n))) numbers) output
     → ColumnsConvert d n count full numbers output
 columns-tableau d n count full numbers output f m h = λ columns rest c q same.
-    let all : List ℕ = each (λ (x : List ℕ). x) columns in
+    let all : List ℕ = concatenated (λ (x : List ℕ). x) columns in
     let g : fullColumns n columns ≡ true = sym q ∙ f in
     let k : length columns ≡ 2 * n = sym c ∙ m in
     let l : length (bytesOf all) ≡ 2 * (2 * n * (1 + 2 * n)) = bytes-length all ∙ ap (λ (x : ℕ). 2 * x) (full-length n columns g ∙ ap (λ (x : ℕ). x * (1 + 2 * n)) k) in
@@ -180,8 +187,36 @@ columns-tableau d n count full numbers output f m h = λ columns rest c q same.
 
 -- where the call's answer is a
 module _ (d n : ℕ) (tableau old new : List ℕ) (a : Answer) (s : Synthesised d n tableau old new a) where
+  -- `R,7` and `R,8` are printed where the call's number is 7 or 8
+  told : (columns : List (List ℕ)) → fullColumns n columns ≡ true → length columns ≡ 2 * n → tableau ≡ bytesOf (concatenated (λ (c : List ℕ). c) columns) → {output : List ℕ} → 11008 ≤ length old
+      → ((j : ℕ) → j ≢ 0 → (output ≡ printRefusal j) ↔ (a .number ≡ j))
+      → columnsMalformed d n columns ≡ 0 → ((output ≡ printRefusal 7) ⊎ (output ≡ printRefusal 8)) ↔ ¬ Realisable d n (map (pauliOf n) columns)
+  told columns f m same {output} h says z =
+      let u = rw (decoded d n tableau columns f m same) at (s .unrealisable (malformed-same d n tableau columns f m same (length old) h ∙ z)) in
+      (λ p. u .0 (there p), λ r. back (u .1 r))
+    where
+      seven : (output ≡ printRefusal 7) ↔ (a .number ≡ 7)
+      seven = says 7 (λ e. omega arith)
+
+      eight : (output ≡ printRefusal 8) ↔ (a .number ≡ 8)
+      eight = says 8 (λ e. omega arith)
+
+      there : (output ≡ printRefusal 7) ⊎ (output ≡ printRefusal 8) → (a .number ≡ 7) ⊎ (a .number ≡ 8)
+      there (inl e) = inl (seven .0 e)
+      there (inr e) = inr (eight .0 e)
+
+      back : (a .number ≡ 7) ⊎ (a .number ≡ 8) → (output ≡ printRefusal 7) ⊎ (output ≡ printRefusal 8)
+      back (inl e) = inl (seven .1 e)
+      back (inr e) = inr (eight .1 e)
+
   pub tableau-refused : {output : List ℕ} → 11008 ≤ length old → a .number ≢ 0 → output ≡ printRefusal (a .number) → TableauConverts d n tableau output
-  tableau-refused h z p = λ columns f m same. refuses (sym (s .number ∙ refusal-same d n tableau columns f m same (length old) h)) z p
+  tableau-refused h z p = λ columns f m same.
+      let e : a .number ≡ columnsRefusal d n columns = s .number ∙ refusal-same d n tableau columns f m same (length old) h in
+      record {
+        refused = λ r. p ∙ ap printRefusal e;
+        accepted = λ r. absurd (z (e ∙ r));
+        unrealisable = told columns f m same h (λ j l. (λ q. refusal-unique (a .number) j (sym p ∙ q), λ q. p ∙ ap printRefusal q));
+      }
 
   -- the list's bytes are there, and few
   pub list-few : a .number ≡ 0 → a .value ≤ 1376
@@ -191,8 +226,11 @@ module _ (d n : ℕ) (tableau old new : List ℕ) (a : Answer) (s : Synthesised 
 
   -- the list
   pub tableau-printed : {output : List ℕ} → 11008 ≤ length old → a .number ≡ 0 → output ≡ printFile (listFileOf d n (handed (a .value) new) (a .value)) → TableauConverts d n tableau output
-  tableau-printed {output} h z p = λ columns f m same. accepts (sym (refusal-same d n tableau columns f m same (length old) h) ∙ sym (s .number) ∙ z)
-      (subst (λ (t : List Pauli). PrintsList d n t output) (decoded d n tableau columns f m same) list)
+  tableau-printed {output} h z p = λ columns f m same. record {
+    refused = λ r. absurd (r (sym (refusal-same d n tableau columns f m same (length old) h) ∙ sym (s .number) ∙ z));
+    accepted = λ r. subst (λ (t : List Pauli). PrintsList d n t output) (decoded d n tableau columns f m same) list;
+    unrealisable = told columns f m same h (λ j l. (λ q. absurd (refusal-no-list j d n _ (sym p ∙ q)), λ q. absurd (l (sym q ∙ z))));
+  }
     where
       rows : List WrittenRow
       rows = listRows (handed (a .value) new)

@@ -2,28 +2,28 @@
 use mathlib.Core.Path.{_≡_, ap, subst, _∙_}
 use mathlib.Core.Bool.{Bool, true}
 use mathlib.Core.List.{List}
-use Prim.Native.Nat.{ℕ, _+_, _*_, _≤_, _<_}
+use Prim.Native.Nat.{ℕ, _+_, _*_, _≤_}
 use native.Mathlib.Omega.{arith}
 use lib.ListN.{length, take, drop}
 use lib.Seq.{take-at}
-use Rattle.arith.specs.Bytes.{bytesOf}
 use Rattle.arith.specs.Refusals.{refusalNumber}
 use Rattle.arith.specs.declared.checks.Refusal.the-variants.{Text}
+use Rattle.arith.specs.Bytes.{bytesOf}
 use Rattle.gates.specs.Written.{WrittenRow, rowNumbers, encodeRows}
-use Rattle.text.specs.Format.{File, tableauFile, listFile, each, printRefusal, LaidOut}
-use Rattle.text.specs.Reads.{Reads, ColumnsRead, RowsRead}
-use Rattle.text.specs.Convert.{PrintsFor, ListConverts, ColumnsConvert, Converts}
+use Rattle.text.specs.Format.{File, tableauFile, listFile, concatenated, printRefusal, LaidOut}
+use Rattle.text.specs.parts.Reads.{Reads, ColumnsRead, RowsRead}
+use Rattle.text.specs.Convert.{PrintsFor, Converts, InputFits, ConvertsInput}
+use Rattle.text.specs.parts.FromBytes.{ListConverts, ColumnsConvert}
+use Rattle.text.specs.declared.Input.{Input}
+use Rattle.text.specs.declared.Input.the-variants.{Complete, Incomplete}
 use Rattle.text.specs.declared.reading.Reading.{Reading}
 use Rattle.text.specs.declared.reading.Reading.the-variants.{NoFile, Tableau, Rows}
 use Rattle.text.proofs.Back.{rows-room, columns-room}
 use Rattle.gates.proofs.Written.{rows-bytes}
-use Rattle.text.proofs.Lists.{each-rows}
+use Rattle.text.proofs.Lists.{rows-concatenated}
 use Rattle.text.proofs.Unique.{one-file}
 
 -- ---- 9
-pub too-long : (text : List ℕ) → 65536 < length text → (f : File) → LaidOut text f → ⊥
-too-long text h f laid = omega (arith, laid .0)
-
 pub converts-none : {text output : List ℕ} → ((f : File) → LaidOut text f → ⊥) → output ≡ printRefusal (refusalNumber Text) → Converts text output
 converts-none h p = record { file = λ f laid. absurd (h f laid); none = λ no. p }
 
@@ -46,8 +46,8 @@ module _ (text before : List ℕ) (r : Reading) (buffer : List ℕ) (h : Reads t
     pub converts-rows : (output : List ℕ) → ListConverts d n (take (8 * lines) buffer) output → Converts text output
     converts-rows output p =
         let rows : List WrittenRow = read-rows .rows in
-        let b : List ℕ = bytesOf (each rowNumbers rows) in
-        let same : b ≡ encodeRows rows = ap bytesOf (each-rows rows) in
+        let b : List ℕ = bytesOf (concatenated rowNumbers rows) in
+        let same : b ≡ encodeRows rows = ap bytesOf (rows-concatenated rows) in
         let l : length b ≡ 8 * lines = omega (arith, ap length same, rows-bytes rows, read-rows .counted) in
         converts-file text output (listFile d n rows) (read-rows .laid) (p rows (ap (take (8 * lines)) (read-rows .holds) ∙ take-at b (drop (length b) before) (8 * lines) l ∙ same))
 
@@ -62,5 +62,15 @@ module _ (text before : List ℕ) (r : Reading) (buffer : List ℕ) (h : Reads t
     pub converts-columns : (output : List ℕ) → ColumnsConvert d n lines full buffer output → Converts text output
     converts-columns output p =
         let columns : List (List ℕ) = read-columns .columns in
-        let b : List ℕ = bytesOf (each (λ (c : List ℕ). c) columns) in
+        let b : List ℕ = bytesOf (concatenated (λ (c : List ℕ). c) columns) in
         converts-file text output (tableauFile d n columns) (read-columns .laid) (p columns (drop (length b) before) (read-columns .counted) (read-columns .sized) (read-columns .holds))
+
+-- ---- what could be read of the input
+pub input-there : (size count : ℕ) (i : Input) → i ≡ Complete count → InputFits size i → count ≤ size
+input-there size count i e h = rw e at h
+
+pub input-complete : (buffer output : List ℕ) (count : ℕ) (i : Input) → i ≡ Complete count → Converts (take count buffer) output → ConvertsInput buffer i output
+input-complete buffer output count i e h = rw e h
+
+pub input-incomplete : (buffer output : List ℕ) (i : Input) → i ≡ Incomplete → output ≡ printRefusal (refusalNumber Text) → ConvertsInput buffer i output
+input-incomplete buffer output i e h = rw e h

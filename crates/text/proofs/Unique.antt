@@ -8,8 +8,8 @@ use lib.Dec.{ltb}
 use lib.ListN.{length, length-append}
 use borrow.Author.Tests.{ltb-true, ltb-false}
 use Rattle.gates.specs.Written.{WrittenRow}
-use Rattle.text.specs.Format.{decimal, digits, line, letterOf, File, tableauFile, listFile, rowLine, columnLine, each, Every, ColumnFits, RowFits, FileFits, printFile, LaidOut}
-use Rattle.text.specs.Scan.{letterField}
+use Rattle.text.specs.Format.{decimal, digits, line, letterOf, File, tableauFile, listFile, rowLine, columnLine, concatenated, Every, ColumnFits, RowFits, FileFits, printFile, printRefusal, LaidOut}
+use Rattle.text.specs.parts.Scan.{letterField}
 use Rattle.text.specs.declared.reading.Field.the-variants.{Whole}
 use Rattle.text.proofs.Digits.{decimal-low, decimal-high, Letter, letter}
 use Rattle.text.proofs.Sound.{every-snoc}
@@ -111,15 +111,15 @@ line-some (x ∷ y ∷ ys) u e =
     let h = ap length e in
     omega (arith, h, length-append (digits x ++ (44 ∷ columnLine (y ∷ ys))) u, length-append (digits x) (44 ∷ columnLine (y ∷ ys)))
 
-columns-unique : (cs es : List (List ℕ)) → Every ColumnFits cs → Every ColumnFits es → each columnLine cs ≡ each columnLine es → cs ≡ es
-unfolding each Every
+columns-unique : (cs es : List (List ℕ)) → Every ColumnFits cs → Every ColumnFits es → concatenated columnLine cs ≡ concatenated columnLine es → cs ≡ es
+unfolding concatenated Every
 columns-unique [] [] f g e = refl
-columns-unique [] (y ∷ es) f g e = absurd (line-some y (each columnLine es) e)
-columns-unique (x ∷ cs) [] f g e = absurd (line-some x (each columnLine cs) (sym e))
+columns-unique [] (y ∷ es) f g e = absurd (line-some y (concatenated columnLine es) e)
+columns-unique (x ∷ cs) [] f g e = absurd (line-some x (concatenated columnLine cs) (sym e))
 columns-unique ([] ∷ cs) (y ∷ es) f g e = absurd (let h = f .0 .0 in omega arith)
 columns-unique ((x ∷ xs) ∷ cs) ([] ∷ es) f g e = absurd (let h = g .0 .0 in omega arith)
 columns-unique ((x ∷ xs) ∷ cs) ((y ∷ ys) ∷ es) f g e =
-    let p = line-unique x xs y ys (each columnLine cs) (each columnLine es) e in
+    let p = line-unique x xs y ys (concatenated columnLine cs) (concatenated columnLine es) e in
     ap₂ (λ (c : List ℕ) (l : List (List ℕ)). c ∷ l) (p .0) (columns-unique cs es (f .1) (g .1) (p .1))
 
 letter-unique : (k j : ℕ) → Letter k → Letter j → letterOf k ≡ letterOf j → k ≡ j
@@ -144,13 +144,13 @@ row-unique r s u z f g e =
         let h3 : r .power ≡ s .power = cc in
         λ i. record { kind = k i; first = h1 i; second = h2 i; power = h3 i }
 
-rows-unique : (rs ss : List WrittenRow) → Every RowFits rs → Every RowFits ss → each rowLine rs ≡ each rowLine ss → rs ≡ ss
-unfolding each Every line
+rows-unique : (rs ss : List WrittenRow) → Every RowFits rs → Every RowFits ss → concatenated rowLine rs ≡ concatenated rowLine ss → rs ≡ ss
+unfolding concatenated Every line
 rows-unique [] [] f g e = refl
 rows-unique [] (s ∷ ss) f g e = absurd (let z : _≡_ {A = ℕ} 0 1 = cc in omega arith)
 rows-unique (r ∷ rs) [] f g e = absurd (let z : _≡_ {A = ℕ} 0 1 = cc in omega arith)
 rows-unique (r ∷ rs) (s ∷ ss) f g e =
-    let p = row-unique r s (each rowLine rs) (each rowLine ss) (f .0) (g .0) e in
+    let p = row-unique r s (concatenated rowLine rs) (concatenated rowLine ss) (f .0) (g .0) e in
     ap₂ (λ (c : WrittenRow) (l : List WrittenRow). c ∷ l) (p .0) (rows-unique rs ss (f .1) (g .1) (p .1))
 
 -- ---- files
@@ -164,14 +164,25 @@ head-unique c d n e m u z q =
 pub print-unique : (f g : File) → FileFits f → FileFits g → printFile f ≡ printFile g → f ≡ g
 unfolding line
 print-unique (tableauFile d n cs) (tableauFile e m es) f g q =
-    let p = head-unique 84 d n e m (each columnLine cs) (each columnLine es) q in
+    let p = head-unique 84 d n e m (concatenated columnLine cs) (concatenated columnLine es) q in
     let a = p .0 in let b = p .1 .0 in let c = columns-unique cs es (f .1) (g .1) (p .1 .1) in cc
 print-unique (tableauFile d n cs) (listFile e m ss) f g q = absurd (let z : _≡_ {A = ℕ} 84 76 = cc in omega arith)
 print-unique (listFile d n rs) (tableauFile e m es) f g q = absurd (let z : _≡_ {A = ℕ} 76 84 = cc in omega arith)
 print-unique (listFile d n rs) (listFile e m ss) f g q =
-    let p = head-unique 76 d n e m (each rowLine rs) (each rowLine ss) q in
+    let p = head-unique 76 d n e m (concatenated rowLine rs) (concatenated rowLine ss) q in
     let a = p .0 in let b = p .1 .0 in let c = rows-unique rs ss (f .1) (g .1) (p .1 .1) in cc
 
 -- a text has one file at most
 pub one-file : (text : List ℕ) (f g : File) → LaidOut text f → LaidOut text g → f ≡ g
 one-file text f g h k = print-unique f g (h .1 .0) (k .1 .0) (sym (h .1 .1) ∙ k .1 .1)
+
+-- ---- refusals: what is printed says the number, and is no list
+pub refusal-unique : (k j : ℕ) → printRefusal k ≡ printRefusal j → k ≡ j
+unfolding line
+refusal-unique k j e =
+    let h : digits k ++ (10 ∷ []) ≡ digits j ++ (10 ∷ []) = cc in
+    fields k j 10 10 [] [] (omega arith) (omega arith) h .0
+
+pub refusal-no-list : (k d n : ℕ) (rows : List WrittenRow) → printFile (listFile d n rows) ≡ printRefusal k → ⊥
+unfolding line
+refusal-no-list k d n rows e = let z : _≡_ {A = ℕ} 76 82 = cc in omega arith

@@ -49,14 +49,14 @@ abbrev pub rowLine : WrittenRow → List ℕ
 rowLine r = line ((letterOf (r .kind) ∷ []) ∷ digits (r .first) ∷ digits (r .second) ∷ digits (r .power) ∷ [])
 
 -- the lists that f gives, one after the other
-unfoldable pub each : {A : Type 0} → (A → List ℕ) → List A → List ℕ
-each f [] = []
-each f (x ∷ xs) = f x ++ each f xs
+unfoldable pub concatenated : {A : Type 0} → (A → List ℕ) → List A → List ℕ
+concatenated f [] = []
+concatenated f (x ∷ xs) = f x ++ concatenated f xs
 
 -- T is 84, L is 76
 abbrev pub printFile : File → List ℕ
-printFile (tableauFile d n columns) = header 84 d n ++ each columnLine columns
-printFile (listFile d n rows) = header 76 d n ++ each rowLine rows
+printFile (tableauFile d n columns) = header 84 d n ++ concatenated columnLine columns
+printFile (listFile d n rows) = header 76 d n ++ concatenated rowLine rows
 
 -- a refusal: R (82) and its number
 abbrev pub printRefusal : ℕ → List ℕ

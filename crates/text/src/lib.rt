@@ -14,11 +14,41 @@ ghost use lib.ListN.{length, take};
 ghost use Rattle.arith.specs.Refusals.{refusalNumber, numberOf, orElse, givenOf};
 ghost use Rattle.arith.specs.declared.checks.Refusal.the-variants.{Text};
 ghost use Rattle.text.specs.Format.{printRefusal};
-ghost use Rattle.text.specs.Prints.{Prints};
-ghost use Rattle.text.specs.Convert.{countsOf, ListConverts, TableauConverts, ColumnsConvert, Converts};
+ghost use Rattle.text.specs.Convert.{countsOf, Converts, InputFits, ConvertsInput};
+ghost use Rattle.text.specs.parts.Prints.{Prints};
+ghost use Rattle.text.specs.parts.FromBytes.{outcomeOf, ListConverts, TableauConverts, ColumnsConvert};
 
 pub mod printing;
 pub mod reading;
+
+// What could be read of standard input: all of it, or a full buffer, so many bytes at the buffer's front; or not to its end.
+pub enum Input {
+    Complete(usize),
+    Incomplete,
+}
+
+// What the number that a call handed back says: it did what was asked, or it refused.
+pub enum Outcome {
+    Done,
+    Refused(u16),
+}
+
+fn outcome_of(number: u16) -> Outcome
+    ensures { λ r. ⌜ r ≡ outcomeOf number ⌝ }
+{
+    if number == 0 {
+        return Outcome::Done;
+    }
+    Outcome::Refused(number)
+}
+
+// Prints 9, the refusal of a text that holds no file, and returns its length.
+fn print_no_file(out: &mut [u8]) -> usize
+    requires { ⌜ 8 ≤ length (now out) ⌝ }
+    ensures { λ r. ⌜ Prints (printRefusal (refusalNumber Text)) (now (out .entry)) r (now (out .exit)) ⌝ }
+{
+    print_refusal(refusal_number(Refusal::Text), out)
+}
 
 // Prints the tableau of a list, or a refusal.
 fn convert_list(d: u16, n: u16, list: &[u8], answer: &mut [u8], out: &mut [u8]) -> usize
@@ -26,9 +56,9 @@ fn convert_list(d: u16, n: u16, list: &[u8], answer: &mut [u8], out: &mut [u8]) 
     ensures { λ r. ⌜ (r ≤ length (now (out .exit))) × ListConverts d n (now (list .entry)) (take r (now (out .exit))) ⌝ }
 {
     let number = tableau::calls::tableau_of(d, n, list, answer);
-    if number != 0 {
+    let Outcome::Done = outcome_of(number) else {
         return print_refusal(number, out);
-    }
+    };
     print_tableau(d, n, answer, out)
 }
 
@@ -59,9 +89,9 @@ fn convert_tableau(d: u16, n: u16, tableau: &[u8], answer: &mut [u8], out: &mut 
     ensures { λ r. ⌜ (r ≤ length (now (out .exit))) × TableauConverts d n (now (tableau .entry)) (take r (now (out .exit))) ⌝ }
 {
     let found = synthesis::calls::synthesis(d, n, tableau, answer);
-    if found.number != 0 {
+    let Outcome::Done = outcome_of(found.number) else {
         return print_refusal(found.number, out);
-    }
+    };
     let count = found.value as usize;
     print_list(d, n, &answer[..8 * count], count, out)
 }
@@ -88,22 +118,11 @@ fn convert_columns(
     convert_tableau(d, n, &numbers[..2 * (2 * m * (1 + 2 * m))], answer, out)
 }
 
-// Prints 9, the refusal of a text that holds no file, and returns its length.
-fn print_no_file(out: &mut [u8]) -> usize
-    requires { ⌜ 8 ≤ length (now out) ⌝ }
-    ensures { λ r. ⌜ Prints (printRefusal (refusalNumber Text)) (now (out .entry)) r (now (out .exit)) ⌝ }
-{
-    print_refusal(refusal_number(Refusal::Text), out)
-}
-
 // What the text program prints, at the front of `out`; returns its length.
 pub fn convert(text: &[u8], numbers: &mut [u8], answer: &mut [u8], out: &mut [u8]) -> usize
     requires { ⌜ (65536 ≤ length (now numbers)) × ((11008 ≤ length (now answer)) × (27534 ≤ length (now out))) ⌝ }
     ensures { λ r. ⌜ (r ≤ length (now (out .exit))) × Converts (now (text .entry)) (take r (now (out .exit))) ⌝ }
 {
-    if 65536 < text.len() {
-        return print_no_file(out);
-    }
     match read(text, numbers) {
         Reading::NoFile => print_no_file(out),
         Reading::Tableau { d, n, lines, full } => convert_columns(
@@ -117,4 +136,22 @@ pub fn convert(text: &[u8], numbers: &mut [u8], answer: &mut [u8], out: &mut [u8
         ),
         Reading::Rows { d, n, lines } => convert_list(d, n, &numbers[..8 * lines], answer, out),
     }
+}
+
+// What the text program prints for what could be read of its input, at the front of `out`; returns its length.
+pub fn convert_input(
+    buffer: &[u8],
+    input: Input,
+    numbers: &mut [u8],
+    answer: &mut [u8],
+    out: &mut [u8],
+) -> usize
+    requires { ⌜ InputFits (length (now buffer)) input ⌝ }
+    requires { ⌜ (65536 ≤ length (now numbers)) × ((11008 ≤ length (now answer)) × (27534 ≤ length (now out))) ⌝ }
+    ensures { λ r. ⌜ (r ≤ length (now (out .exit))) × ConvertsInput (now (buffer .entry)) input (take r (now (out .exit))) ⌝ }
+{
+    let Input::Complete(count) = input else {
+        return print_no_file(out);
+    };
+    convert(&buffer[..count], numbers, answer, out)
 }

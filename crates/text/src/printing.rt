@@ -5,13 +5,13 @@ ghost use Prim.Native.Nat.{_+_, _*_, _≤_, _<_};
 ghost use lib.ListN.{length};
 ghost use Rattle.arith.specs.Bytes.{tab, numbersAt};
 ghost use Rattle.gates.specs.Written.{rowAt};
-ghost use Rattle.text.specs.Format.{digits, letterOf, header, columnLine, rowLine, each, printFile, printRefusal};
-ghost use Rattle.text.specs.Prints.{Puts, Prints, columnsAt, tableauFileOf, listFileOf};
+ghost use Rattle.text.specs.Format.{digits, letterOf, header, columnLine, rowLine, concatenated, printFile, printRefusal};
+ghost use Rattle.text.specs.parts.Prints.{PutsText, Prints, columnsAt, tableauFileOf, listFileOf};
 
 // Writes the digits of x. Each function here writes from position `at` on and returns the position after what it wrote.
 fn print_number(out: &mut [u8], at: usize, x: u16) -> usize
     requires { ⌜ at + length (digits x) ≤ length (now out) ⌝ }
-    ensures { λ r. ⌜ Puts (now (out .entry)) at (digits x) r (now (out .exit)) ⌝ }
+    ensures { λ r. ⌜ PutsText (now (out .entry)) at (digits x) r (now (out .exit)) ⌝ }
 {
     if x < 10 {
         out[at] = b'0' + (x as u8);
@@ -25,7 +25,7 @@ fn print_number(out: &mut [u8], at: usize, x: u16) -> usize
 // Writes a number and the byte that ends its field.
 fn print_field(out: &mut [u8], at: usize, x: u16, end: u8) -> usize
     requires { ⌜ at + 6 ≤ length (now out) ⌝ }
-    ensures { λ r. ⌜ (Puts (now (out .entry)) at (digits x ++ (end ∷ [])) r (now (out .exit))) × (r ≤ at + 6) ⌝ }
+    ensures { λ r. ⌜ (PutsText (now (out .entry)) at (digits x ++ (end ∷ [])) r (now (out .exit))) × (r ≤ at + 6) ⌝ }
 {
     let next = print_number(out, at, x);
     out[next] = end;
@@ -35,7 +35,7 @@ fn print_field(out: &mut [u8], at: usize, x: u16, end: u8) -> usize
 // Writes a header.
 fn print_header(out: &mut [u8], letter: u8, d: u16, n: u16) -> usize
     requires { ⌜ 14 ≤ length (now out) ⌝ }
-    ensures { λ r. ⌜ (Puts (now (out .entry)) 0 (header letter d n) r (now (out .exit))) × (r ≤ 14) ⌝ }
+    ensures { λ r. ⌜ (PutsText (now (out .entry)) 0 (header letter d n) r (now (out .exit))) × (r ≤ 14) ⌝ }
 {
     out[0] = letter;
     out[1] = b',';
@@ -46,7 +46,7 @@ fn print_header(out: &mut [u8], letter: u8, d: u16, n: u16) -> usize
 // Writes the m numbers of b from number k on as a line.
 fn print_column(out: &mut [u8], at: usize, b: &[u8], k: usize, m: usize) -> usize
     requires { ⌜ (0 < m) × ((2 * (k + m) ≤ length (now b)) × (at + 6 * m ≤ length (now out))) ⌝ }
-    ensures { λ r. ⌜ (Puts (now (out .entry)) at (columnLine (numbersAt (now (b .entry)) k m)) r (now (out .exit))) × (r ≤ at + 6 * m) ⌝ }
+    ensures { λ r. ⌜ (PutsText (now (out .entry)) at (columnLine (numbersAt (now (b .entry)) k m)) r (now (out .exit))) × (r ≤ at + 6 * m) ⌝ }
 {
     let mut next = at;
     let mut i = 0;
@@ -60,7 +60,7 @@ fn print_column(out: &mut [u8], at: usize, b: &[u8], k: usize, m: usize) -> usiz
 // Writes `count` columns of m numbers each.
 fn print_columns(out: &mut [u8], at: usize, b: &[u8], m: usize, count: usize) -> usize
     requires { ⌜ (0 < m) × ((2 * (count * m) ≤ length (now b)) × (at + 6 * (count * m) ≤ length (now out))) ⌝ }
-    ensures { λ r. ⌜ (Puts (now (out .entry)) at (each columnLine (columnsAt (now (b .entry)) m count)) r (now (out .exit))) × (r ≤ at + 6 * (count * m)) ⌝ }
+    ensures { λ r. ⌜ (PutsText (now (out .entry)) at (concatenated columnLine (columnsAt (now (b .entry)) m count)) r (now (out .exit))) × (r ≤ at + 6 * (count * m)) ⌝ }
 {
     let mut next = at;
     for i in 0..count {
@@ -87,7 +87,7 @@ fn letter(kind: u16) -> u8
 // Writes row k of b: a letter, and then a line of three numbers.
 fn print_row(out: &mut [u8], at: usize, b: &[u8], k: usize) -> usize
     requires { ⌜ (8 * k + 8 ≤ length (now b)) × (at + 20 ≤ length (now out)) ⌝ }
-    ensures { λ r. ⌜ (Puts (now (out .entry)) at (rowLine (rowAt (now (b .entry)) k)) r (now (out .exit))) × (r ≤ at + 20) ⌝ }
+    ensures { λ r. ⌜ (PutsText (now (out .entry)) at (rowLine (rowAt (now (b .entry)) k)) r (now (out .exit))) × (r ≤ at + 20) ⌝ }
 {
     out[at] = letter(arith::numbers::get(b, 4 * k));
     out[at + 1] = b',';
@@ -97,7 +97,7 @@ fn print_row(out: &mut [u8], at: usize, b: &[u8], k: usize) -> usize
 // Writes the first `count` rows of b.
 fn print_rows(out: &mut [u8], at: usize, b: &[u8], count: usize) -> usize
     requires { ⌜ (8 * count ≤ length (now b)) × (at + 20 * count ≤ length (now out)) ⌝ }
-    ensures { λ r. ⌜ (Puts (now (out .entry)) at (each rowLine (tab (rowAt (now (b .entry))) count)) r (now (out .exit))) × (r ≤ at + 20 * count) ⌝ }
+    ensures { λ r. ⌜ (PutsText (now (out .entry)) at (concatenated rowLine (tab (rowAt (now (b .entry))) count)) r (now (out .exit))) × (r ≤ at + 20 * count) ⌝ }
 {
     let mut next = at;
     for i in 0..count {

@@ -3,8 +3,8 @@ ghost use mathlib.Core.Path.{_≡_};
 ghost use mathlib.Core.Bool.{cond, _&&_};
 ghost use Prim.Native.Nat.{_+_, _*_, _≤_, _<_};
 ghost use lib.ListN.{length, drop};
-ghost use Rattle.text.specs.Scan.{kindOf, letterField, firstDigit, nextDigit, grownOf, inHead, letterDue, afterComma, afterLine, brokenOf, grow, commaOf, lineOf, endedOf, endedOut, turnOf, turnOut, keptOf, openingOf, startOf, run, valueOf, Within};
-ghost use Rattle.text.specs.Reads.{wholeOf, answerOf, Reads};
+ghost use Rattle.text.specs.parts.Scan.{kindOf, letterField, firstDigit, nextDigit, grownOf, inHead, letterDue, afterLine, brokenOf, grow, commaOf, lineOf, endedOf, endedOut, afterByte, outAfterByte, keptOf, openingOf, startOf, scanned, valueOf, Within};
+ghost use Rattle.text.specs.parts.Reads.{wholeOf, answerOf, Reads};
 
 // The line that is being read.
 pub enum Form {
@@ -175,18 +175,6 @@ fn only_if(right: bool, form: Form) -> Form
     Form::Broken
 }
 
-fn after_comma(form: Form, place: usize) -> Form
-    ensures { λ r. ⌜ r ≡ afterComma form place ⌝ }
-{
-    match form {
-        Form::TableHead => only_if(place == 0, Form::TableHead),
-        Form::ListHead => only_if(place == 0, Form::ListHead),
-        Form::Column => Form::Column,
-        Form::GateRow => only_if(place < 3, Form::GateRow),
-        Form::Broken => Form::Broken,
-    }
-}
-
 fn after_line(form: Form, place: usize) -> Form
     ensures { λ r. ⌜ r ≡ afterLine form place ⌝ }
 {
@@ -199,16 +187,15 @@ fn after_line(form: Form, place: usize) -> Form
     }
 }
 
-// A comma after a field that holds x.
+// A comma after a field that holds x. That a line has too many fields is found at its line feed.
 fn comma(s: State, x: u16) -> State
     requires { ⌜ (s .place < 65536) × (s .count < 65536) ⌝ }
     ensures { λ r. ⌜ r ≡ commaOf s x ⌝ }
 {
     let form = s.form;
-    let next = after_comma(form, s.place);
     if in_head(form) {
         return State {
-            form: next,
+            form: form,
             d: x,
             n: s.n,
             lines: s.lines,
@@ -219,7 +206,7 @@ fn comma(s: State, x: u16) -> State
         };
     }
     State {
-        form: next,
+        form: form,
         d: s.d,
         n: s.n,
         lines: s.lines,
@@ -346,9 +333,9 @@ fn ended(s: State, b: u8, i: usize, out: &mut [u8]) -> State
 }
 
 // Byte i of the text, b.
-fn turn(s: State, b: u8, i: usize, out: &mut [u8]) -> State
+fn after_byte(s: State, b: u8, i: usize, out: &mut [u8]) -> State
     requires { ⌜ (Within i s) × ((i < 65536) × (i < length (now out))) ⌝ }
-    ensures { λ r. ⌜ (r ≡ turnOf s b) × (now (out .exit) ≡ turnOut s b (now (out .entry))) ⌝ }
+    ensures { λ r. ⌜ (r ≡ afterByte s b) × (now (out .exit) ≡ outAfterByte s b (now (out .entry))) ⌝ }
 {
     if b == b',' {
         return ended(s, b, i, out);
@@ -362,7 +349,7 @@ fn turn(s: State, b: u8, i: usize, out: &mut [u8]) -> State
 // The text from its third byte on.
 fn scan(text: &[u8], form: Form, out: &mut [u8]) -> State
     requires { ⌜ (2 ≤ length (now text)) × ((length (now text) ≤ 65536) × (length (now text) ≤ length (now out))) ⌝ }
-    ensures { λ r. ⌜ (r ≡ run (startOf form) (now (out .entry)) (drop 2 (now (text .entry))) .state) × (now (out .exit) ≡ run (startOf form) (now (out .entry)) (drop 2 (now (text .entry))) .out) ⌝ }
+    ensures { λ r. ⌜ (r ≡ scanned (startOf form) (now (out .entry)) (drop 2 (now (text .entry))) .state) × (now (out .exit) ≡ scanned (startOf form) (now (out .entry)) (drop 2 (now (text .entry))) .out) ⌝ }
 {
     let mut s = State {
         form: form,
@@ -376,7 +363,7 @@ fn scan(text: &[u8], form: Form, out: &mut [u8]) -> State
     };
     let mut i = 2;
     while i < text.len() {
-        s = turn(s, text[i], i, out);
+        s = after_byte(s, text[i], i, out);
         i += 1;
     }
     s
@@ -437,7 +424,7 @@ fn answer(s: State) -> Reading
 
 // The file that the text holds. Its numbers are written from the front of `out`, two bytes each.
 pub fn read(text: &[u8], out: &mut [u8]) -> Reading
-    requires { ⌜ length (now text) ≤ length (now out) ⌝ }
+    requires { ⌜ (length (now text) ≤ 65536 → length (now text) ≤ length (now out)) ⌝ }
     ensures { λ r. ⌜ Reads (now (text .entry)) (now (out .entry)) r (now (out .exit)) ⌝ }
 {
     if 65536 < text.len() {

@@ -5,14 +5,14 @@ use native.Mathlib.Omega.{arith}
 use lib.ListN.{length}
 use borrow.Author.Needs.{needs}
 use Rattle.arith.specs.Bytes.{numbersAt}
-use Rattle.text.specs.Prints.{Puts}
+use Rattle.text.specs.parts.Prints.{PutsText}
 use Rattle.text.proofs.Sound.{commas}
 use Rattle.text.proofs.Writing.{commas-none, commas-more, commas-end}
 use Rattle.text.proofs.printing.print_column.Statement.{statement}
 use Rattle.text.proofs.printing.print_column.Tie as tie
 
 abbrev Inv-loop : tie.InvT-loop
-Inv-loop out₀ at b k m next₀ i₀ out next i = (i + 1 ≤ m) × ((length out ≡ length out₀) × ((next ≤ at + 6 * i) × (Puts out₀ at (commas (numbersAt b k i)) next out)))
+Inv-loop out₀ at b k m next₀ i₀ out next i = (i + 1 ≤ m) × ((length out ≡ length out₀) × ((next ≤ at + 6 * i) × (PutsText out₀ at (commas (numbersAt b k i)) next out)))
 
 abbrev μ-loop : tie.MeasureT-loop
 μ-loop out₀ at b k m next₀ i₀ out next i = m - i

@@ -5,14 +5,14 @@ use native.Mathlib.Nat.{mul-le-mul-right}
 use native.Mathlib.Omega.{arith}
 use lib.ListN.{length}
 use borrow.Author.Needs.{needs}
-use Rattle.text.specs.Format.{each, columnLine}
-use Rattle.text.specs.Prints.{Puts, columnsAt}
+use Rattle.text.specs.Format.{concatenated, columnLine}
+use Rattle.text.specs.parts.Prints.{PutsText, columnsAt}
 use Rattle.text.proofs.Writing.{lines-none, lines-put}
 use Rattle.text.proofs.printing.print_columns.Statement.{statement}
 use Rattle.text.proofs.printing.print_columns.Tie as tie
 
 abbrev Inv-loop : tie.InvT-loop
-Inv-loop out₀ at b m count next₀ i₀ out next i = (i ≤ count) × ((length out ≡ length out₀) × ((next ≤ at + 6 * (i * m)) × (Puts out₀ at (each columnLine (columnsAt b m i)) next out)))
+Inv-loop out₀ at b m count next₀ i₀ out next i = (i ≤ count) × ((length out ≡ length out₀) × ((next ≤ at + 6 * (i * m)) × (PutsText out₀ at (concatenated columnLine (columnsAt b m i)) next out)))
 
 abbrev μ-loop : tie.MeasureT-loop
 μ-loop out₀ at b m count next₀ i₀ out next i = count - i

@@ -6,14 +6,14 @@ use lib.ListN.{length}
 use borrow.Author.Needs.{needs}
 use Rattle.arith.specs.Bytes.{tab}
 use Rattle.gates.specs.Written.{rowAt}
-use Rattle.text.specs.Format.{each, rowLine}
-use Rattle.text.specs.Prints.{Puts}
+use Rattle.text.specs.Format.{concatenated, rowLine}
+use Rattle.text.specs.parts.Prints.{PutsText}
 use Rattle.text.proofs.Writing.{lines-none, lines-put}
 use Rattle.text.proofs.printing.print_rows.Statement.{statement}
 use Rattle.text.proofs.printing.print_rows.Tie as tie
 
 abbrev Inv-loop : tie.InvT-loop
-Inv-loop out₀ at b count next₀ i₀ out next i = (i ≤ count) × ((length out ≡ length out₀) × ((next ≤ at + 20 * i) × (Puts out₀ at (each rowLine (tab (rowAt b) i)) next out)))
+Inv-loop out₀ at b count next₀ i₀ out next i = (i ≤ count) × ((length out ≡ length out₀) × ((next ≤ at + 20 * i) × (PutsText out₀ at (concatenated rowLine (tab (rowAt b) i)) next out)))
 
 abbrev μ-loop : tie.MeasureT-loop
 μ-loop out₀ at b count next₀ i₀ out next i = count - i

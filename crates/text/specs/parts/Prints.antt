@@ -9,7 +9,7 @@ use Rattle.gates.specs.Written.{rowAt}
 use Rattle.text.specs.Format.{File, tableauFile, listFile}
 
 -- `text` is written from position `at` of `out` on, and `next` is the position after it
-pub record Puts (out : List ℕ) (at : ℕ) (text : List ℕ) (next : ℕ) (after : List ℕ) : Type 0 where
+pub record PutsText (out : List ℕ) (at : ℕ) (text : List ℕ) (next : ℕ) (after : List ℕ) : Type 0 where
   pub ends : next ≡ at + length text
   pub holds : after ≡ sets out at text
 

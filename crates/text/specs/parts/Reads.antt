@@ -1,13 +1,14 @@
 -- What the reader answers.
 use mathlib.Core.Path.{_≡_}
-use mathlib.Core.Bool.{Bool, true, cond, _&&_}
-use mathlib.Core.List.{List, [], _∷_}
-use Prim.Native.Nat.{ℕ, _+_, _*_}
+use mathlib.Core.Bool.{Bool, cond}
+use mathlib.Core.List.{List}
+use Prim.Native.Nat.{ℕ}
 use lib.ListN.{length}
 use lib.Dec.{eqb}
 use Rattle.arith.specs.Bytes.{bytesOf, front}
 use Rattle.gates.specs.Written.{WrittenRow, rowNumbers}
-use Rattle.text.specs.Format.{File, tableauFile, listFile, each, LaidOut}
+use Rattle.text.specs.Format.{File, tableauFile, listFile, concatenated, LaidOut}
+use Rattle.text.specs.Convert.{fullColumns}
 use Rattle.text.specs.declared.reading.Form.{Form}
 use Rattle.text.specs.declared.reading.Form.the-variants.{TableHead, ListHead, Column, GateRow, Broken}
 use Rattle.text.specs.declared.reading.Field.{Field}
@@ -16,15 +17,10 @@ use Rattle.text.specs.declared.reading.State.{State}
 use Rattle.text.specs.declared.reading.Reading.{Reading}
 use Rattle.text.specs.declared.reading.Reading.the-variants.{NoFile, Tableau, Rows}
 
--- whether every column has 1 + 2n numbers
-unfoldable pub fullColumns : ℕ → List (List ℕ) → Bool
-fullColumns n [] = true
-fullColumns n (c ∷ cs) = eqb (length c) (1 + 2 * n) && fullColumns n cs
-
 -- the numbers of all columns, or of all rows, one after the other
 abbrev pub fileNumbers : File → List ℕ
-fileNumbers (tableauFile d n columns) = each (λ c. c) columns
-fileNumbers (listFile d n rows) = each rowNumbers rows
+fileNumbers (tableauFile d n columns) = concatenated (λ c. c) columns
+fileNumbers (listFile d n rows) = concatenated rowNumbers rows
 
 -- the answer for a file
 abbrev pub readingOf : File → Reading

@@ -64,15 +64,7 @@ letterDue Column place = false
 letterDue GateRow place = eqb place 0
 letterDue Broken place = false
 
--- the form after a comma that follows `place` + 1 fields
-abbrev pub afterComma : Form → ℕ → Form
-afterComma TableHead place = cond (eqb place 0) TableHead Broken
-afterComma ListHead place = cond (eqb place 0) ListHead Broken
-afterComma Column place = Column
-afterComma GateRow place = cond (ltb place 3) GateRow Broken
-afterComma Broken place = Broken
-
--- the form after a line feed that follows `place` + 1 fields
+-- the form after a line feed that follows `place` + 1 fields: a header has two after its letter, a row four
 abbrev pub afterLine : Form → ℕ → Form
 afterLine TableHead place = cond (eqb place 1) Column Broken
 afterLine ListHead place = cond (eqb place 1) GateRow Broken
@@ -89,10 +81,10 @@ grow s b = record { form = s .form; d = s .d; n = s .n; lines = s .lines; place 
 
 -- a comma after a field that holds x: in the header that is d
 abbrev pub headComma : State → ℕ → State
-headComma s x = record { form = afterComma (s .form) (s .place); d = x; n = s .n; lines = s .lines; place = s .place + 1; count = s .count; full = s .full; field = Empty }
+headComma s x = record { form = s .form; d = x; n = s .n; lines = s .lines; place = s .place + 1; count = s .count; full = s .full; field = Empty }
 
 abbrev pub bodyComma : State → ℕ → State
-bodyComma s x = record { form = afterComma (s .form) (s .place); d = s .d; n = s .n; lines = s .lines; place = s .place + 1; count = s .count + 1; full = s .full; field = Empty }
+bodyComma s x = record { form = s .form; d = s .d; n = s .n; lines = s .lines; place = s .place + 1; count = s .count + 1; full = s .full; field = Empty }
 
 unfoldable pub commaOf : State → ℕ → State
 commaOf s x = cond (inHead (s .form)) (headComma s x) (bodyComma s x)
@@ -112,8 +104,8 @@ abbrev pub endedOf : State → Value → ℕ → State
 endedOf s Missing b = brokenOf s
 endedOf s (Is x) b = cond (eqb b 44) (commaOf s x) (lineOf s x)
 
-unfoldable pub turnOf : State → ℕ → State
-turnOf s b = cond (eqb b 44) (endedOf s (valueOf (s .field)) 44) (cond (eqb b 10) (endedOf s (valueOf (s .field)) 10) (grow s b))
+unfoldable pub afterByte : State → ℕ → State
+afterByte s b = cond (eqb b 44) (endedOf s (valueOf (s .field)) 44) (cond (eqb b 10) (endedOf s (valueOf (s .field)) 10) (grow s b))
 
 -- the buffer after the byte: a field that ends, but in the header, is number `count` of the buffer
 unfoldable pub keptOf : Form → ℕ → ℕ → List ℕ → List ℕ
@@ -123,17 +115,17 @@ abbrev pub endedOut : State → Value → List ℕ → List ℕ
 endedOut s Missing out = out
 endedOut s (Is x) out = keptOf (s .form) (s .count) x out
 
-unfoldable pub turnOut : State → ℕ → List ℕ → List ℕ
-turnOut s b out = cond (eqb b 44) (endedOut s (valueOf (s .field)) out) (cond (eqb b 10) (endedOut s (valueOf (s .field)) out) out)
+unfoldable pub outAfterByte : State → ℕ → List ℕ → List ℕ
+outAfterByte s b out = cond (eqb b 44) (endedOut s (valueOf (s .field)) out) (cond (eqb b 10) (endedOut s (valueOf (s .field)) out) out)
 
 -- ---- the whole text
 pub record Held : Type 0 where
   pub state : State
   pub out : List ℕ
 
-unfoldable pub run : State → List ℕ → List ℕ → Held
-run s out [] = record { state = s; out = out }
-run s out (b ∷ text) = run (turnOf s b) (turnOut s b out) text
+unfoldable pub scanned : State → List ℕ → List ℕ → Held
+scanned s out [] = record { state = s; out = out }
+scanned s out (b ∷ text) = scanned (afterByte s b) (outAfterByte s b out) text
 
 -- the first two bytes: T or L, and a comma
 unfoldable pub openingOf : ℕ → ℕ → Form

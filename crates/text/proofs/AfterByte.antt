@@ -1,4 +1,4 @@
--- Laws of the reader's turns that its code cites. Assumes nothing.
+-- Laws of one byte of the reader, which its code cites. Assumes nothing.
 use mathlib.Core.Path.{_≡_, refl}
 use mathlib.Core.Bool.{Bool, true, false, cond}
 use mathlib.Core.List.{List, []}
@@ -8,7 +8,7 @@ use native.Mathlib.Omega.{arith}
 use lib.Dec.{eqb}
 use lib.ListN.{length, getD, drop}
 use lib.Seq.{drop-cons}
-use Rattle.text.specs.Scan.{Within, used, valueOf, grownOf, letterDue, inHead, commaOf, headComma, bodyComma, lineOf, headLine, bodyLine, endedOf, turnOf, turnOut, run}
+use Rattle.text.specs.parts.Scan.{Within, used, valueOf, grownOf, letterDue, inHead, commaOf, headComma, bodyComma, lineOf, headLine, bodyLine, endedOf, afterByte, outAfterByte, scanned}
 use Rattle.text.specs.declared.reading.Field.{Field}
 use Rattle.text.specs.declared.reading.Field.the-variants.{Empty, Number, Whole, Bad}
 use Rattle.text.specs.declared.reading.Value.{Value}
@@ -48,19 +48,19 @@ within-ended i s b (Is x) e w =
     by-cond (Within (i + 1)) (eqb b 44) {a = commaOf s x} {b = lineOf s x} (within-comma i s x w u) (within-line i s x w u)
 
 -- the counts stay within the bytes read
-pub within-turn : (i : ℕ) (s : State) (b : ℕ) → Within i s → Within (i + 1) (turnOf s b)
-unfolding turnOf
-within-turn i s b w =
+pub within-byte : (i : ℕ) (s : State) (b : ℕ) → Within i s → Within (i + 1) (afterByte s b)
+unfolding afterByte
+within-byte i s b w =
     by-cond (Within (i + 1)) (eqb b 44) (within-ended i s 44 (valueOf (s .field)) refl w)
     (by-cond (Within (i + 1)) (eqb b 10) (within-ended i s 10 (valueOf (s .field)) refl w)
     (omega (arith, used-le (grownOf (s .field) (letterDue (s .form) (s .place)) b))))
 
--- one byte of a run
-pub run-more : (s : State) (out text : List ℕ) (i : ℕ) → i < length text
-    → run s out (drop i text) ≡ run (turnOf s (getD text i 0)) (turnOut s (getD text i 0) out) (drop (i + 1) text)
-unfolding run
-run-more s out text i h = rw (add-one, drop-cons text i 0)
+-- one byte more of a scan
+pub scanned-more : (s : State) (out text : List ℕ) (i : ℕ) → i < length text
+    → scanned s out (drop i text) ≡ scanned (afterByte s (getD text i 0)) (outAfterByte s (getD text i 0) out) (drop (i + 1) text)
+unfolding scanned
+scanned-more s out text i h = rw (add-one, drop-cons text i 0)
 
-pub run-none : (s : State) (out : List ℕ) → run s out [] ≡ record { state = s; out = out }
-unfolding run
-run-none s out = refl
+pub scanned-none : (s : State) (out : List ℕ) → scanned s out [] ≡ record { state = s; out = out }
+unfolding scanned
+scanned-none s out = refl
