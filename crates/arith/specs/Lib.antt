@@ -1,5 +1,6 @@
-pub mod Gcd
+-- In the order to read them.
 pub mod Residues
+pub mod Gcd
 pub mod Units
 pub mod Bytes
 pub mod Refusals

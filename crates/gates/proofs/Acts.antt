@@ -5,11 +5,11 @@ use mathlib.Core.Logic.{_≢_}
 use Prim.Native.Nat.{ℕ, _-_, _<_}
 use native.Mathlib.Omega.{arith}
 use Rattle.pauli.specs.Pauli.{Pauli}
-use Rattle.pauli.specs.Touched.{Touched, touched, still, OnOne, OnTwo}
+use Rattle.pauli.specs.inner.Touched.{Touched, touched, still, OnOne, OnTwo}
 use Rattle.pauli.proofs.Still.{Rests, still-rests, f-still, s-still, a-still, m-still, x-still, z-still}
 use Rattle.gates.specs.Row.{apply}
 use Rattle.gates.specs.Written.{WrittenRow, rowOfKind, meant, takesTwo, legalRow}
-use Rattle.gates.specs.View.{otherOf, Acts, ActsAt}
+use Rattle.gates.specs.inner.View.{otherOf, Acts, ActsAt}
 use Rattle.gates.proofs.Written.{Kind, kind-f, kind-s, kind-a, kind-m, kind-x, kind-z, legal-sort, legal-first, legal-second}
 
 -- the row of that kind is the row that is meant

@@ -1,4 +1,5 @@
-pub mod Calls
+-- In the order to read them. `inner` has what the contracts of functions inside the crate speak of: no reader needs it to believe what a public call promises.
 pub mod Row
-pub mod View
 pub mod Written
+pub mod Calls
+pub mod inner

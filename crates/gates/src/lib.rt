@@ -8,11 +8,11 @@ ghost use mathlib.Core.Bool.{true};
 ghost use Prim.Native.Nat.{ℕ, _≤_, _<_};
 ghost use Rattle.arith.specs.Refusals.{Dimension};
 ghost use Rattle.arith.specs.Units.{IsUnit};
-ghost use Rattle.pauli.specs.View.{view};
-ghost use Rattle.pauli.specs.Touched.{viewTouched};
+ghost use Rattle.pauli.specs.inner.View.{view};
+ghost use Rattle.pauli.specs.inner.Touched.{viewTouched};
 ghost use Rattle.gates.specs.Row.{apply, undo};
 ghost use Rattle.gates.specs.Written.{withPower, written, meant, between, highest, takesTwo, legalPower, legalSecond, legalRow};
-ghost use Rattle.gates.specs.View.{viewRow, InverseRight, otherOf, Acts};
+ghost use Rattle.gates.specs.inner.View.{viewRow, InverseRight, otherOf, Acts};
 
 pub mod calls;
 pub mod lists;

@@ -8,10 +8,10 @@ ghost use mathlib.Core.Bool.{true};
 ghost use Prim.Native.Nat.{_+_, _*_, _/_, _≤_, _<_};
 ghost use lib.ListN.{length};
 ghost use Rattle.arith.specs.Refusals.{Dimension, numberOf, rowOf};
-ghost use Rattle.pauli.specs.View.{view};
+ghost use Rattle.pauli.specs.inner.View.{view};
 ghost use Rattle.gates.specs.Row.{apply, run};
 ghost use Rattle.gates.specs.Written.{meant, rowAt, listRows, rowsOf, allLegalRows};
-ghost use Rattle.gates.specs.View.{viewRow};
+ghost use Rattle.gates.specs.inner.View.{viewRow};
 
 // Row r of the bytes.
 pub fn read_row(b: &[u8], r: usize) -> Row

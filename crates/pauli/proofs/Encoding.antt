@@ -11,7 +11,7 @@ use Rattle.arith.proofs.Bytes.{tab-ext, tab-length, tab-list, number-bytes, byt
 use Rattle.pauli.specs.Pauli.{Pauli, InRange}
 use Rattle.pauli.specs.Bytes.{pauliBytes, decodeAt, decode, numbersOf, encode}
 use Rattle.pauli.specs.Range.{pauliRangeOf}
-use Rattle.pauli.specs.View.{at, view}
+use Rattle.pauli.specs.inner.View.{at, view}
 use Rattle.pauli.specs.declared.Pauli.{Pauli as Code}
 use Rattle.pauli.proofs.Ranges.{pauli-path}
 use Rattle.pauli.proofs.RangeChecks.{range-good}

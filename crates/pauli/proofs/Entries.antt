@@ -12,7 +12,7 @@ use Rattle.arith.specs.declared.residue.Residue.{Residue}
 use Rattle.arith.proofs.Bytes.{tab-none, tab-more, tab-ext, tab-length, tab-at}
 use Rattle.arith.proofs.Cases.{by-eq}
 use Rattle.pauli.specs.Pauli.{dot, plus}
-use Rattle.pauli.specs.View.{at, entries}
+use Rattle.pauli.specs.inner.View.{at, entries}
 use Rattle.pauli.proofs.Sums.{scaled}
 use Rattle.pauli.proofs.Lists.{cons-path}
 

@@ -9,9 +9,9 @@ use Rattle.arith.specs.Residues.{neg}
 use Rattle.arith.specs.Units.{inverseOf}
 use Rattle.pauli.specs.Pauli.{Pauli}
 use Rattle.pauli.specs.declared.Pauli.{Pauli as Code}
-use Rattle.pauli.specs.View.{at, view}
+use Rattle.pauli.specs.inner.View.{at, view}
 use Rattle.arith.proofs.Bytes.{tab-length}
-use Rattle.pauli.specs.Touched.{Touched, touched, placed, replaced, Has, Puts, OnOne}
+use Rattle.pauli.specs.inner.Touched.{Touched, touched, placed, replaced, Has, Puts, OnOne}
 use Rattle.pauli.specs.Effects.{fourier, effectS, effectA, effectM, effectX, effectZ}
 use Rattle.pauli.proofs.Lists.{set-back}
 use Rattle.pauli.proofs.Ranges.{pauli-path}

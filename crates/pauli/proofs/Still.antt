@@ -13,7 +13,7 @@ use Rattle.arith.proofs.Refusals.{both-held}
 use Rattle.arith.proofs.Cong.{cong-of-eq}
 use Rattle.arith.proofs.Remainders.{mod-of, idle, mul-none, neg-none, neg-zero}
 use Rattle.pauli.specs.Pauli.{Pauli}
-use Rattle.pauli.specs.Touched.{touched, still}
+use Rattle.pauli.specs.inner.Touched.{touched, still}
 use Rattle.pauli.specs.Effects.{fourier, effectF, effectS, effectA, effectM, effectX, effectZ}
 use Rattle.pauli.proofs.Lists.{set-back}
 use Rattle.pauli.proofs.Ranges.{pauli-path}

@@ -1,7 +1,7 @@
-pub mod Bytes
-pub mod Calls
-pub mod Effects
+-- In the order to read them. `inner` has what the contracts of functions inside the crate speak of: no reader needs it to believe what a public call promises.
 pub mod Pauli
+pub mod Effects
+pub mod Bytes
 pub mod Range
-pub mod Touched
-pub mod View
+pub mod Calls
+pub mod inner

@@ -8,7 +8,7 @@ ghost use Rattle.arith.specs.Bytes.{tab};
 ghost use Rattle.arith.specs.Refusals.{Dimension, numberOf, orElse, rangeOf};
 ghost use Rattle.pauli.specs.Pauli.{dot};
 ghost use Rattle.pauli.specs.Range.{boundsOf};
-ghost use Rattle.pauli.specs.View.{entries};
+ghost use Rattle.pauli.specs.inner.View.{entries};
 
 // The product of two entries, not reduced.
 fn whole_product(x: Residue, y: Residue) -> u64

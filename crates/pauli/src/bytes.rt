@@ -8,7 +8,7 @@ ghost use lib.ListN.{length, getD};
 ghost use lib.Seq.{sets};
 ghost use Rattle.arith.specs.Bytes.{numberAt, bytesOf};
 ghost use Rattle.pauli.specs.Bytes.{decodeAt, encode};
-ghost use Rattle.pauli.specs.View.{entries, view};
+ghost use Rattle.pauli.specs.inner.View.{entries, view};
 
 // The m numbers from number k on.
 fn read_numbers(b: &[u8], k: usize, m: usize) -> [u16; 33]

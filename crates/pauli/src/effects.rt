@@ -13,8 +13,8 @@ ghost use mathlib.Core.Logic.{_≢_};
 ghost use Prim.Native.Nat.{ℕ, _<_, _≤_};
 ghost use Rattle.arith.specs.Refusals.{Dimension};
 ghost use Rattle.arith.specs.Units.{inverseOf};
-ghost use Rattle.pauli.specs.View.{entries, view};
-ghost use Rattle.pauli.specs.Touched.{viewTouched, touched, placed};
+ghost use Rattle.pauli.specs.inner.View.{entries, view};
+ghost use Rattle.pauli.specs.inner.Touched.{viewTouched, touched, placed};
 ghost use Rattle.pauli.specs.Effects.{effectF, effectS, effectA, effectM, effectX, effectZ};
 
 // x at place i, and what stood there at any other place p.

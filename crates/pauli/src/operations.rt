@@ -10,7 +10,7 @@ ghost use Rattle.arith.specs.Bytes.{tab};
 ghost use Rattle.arith.specs.Refusals.{Dimension, numberOf};
 ghost use Rattle.pauli.specs.Pauli.{InRange, plus, product, phaseOnly, power, comm, unit, parity};
 ghost use Rattle.pauli.specs.Range.{pauliRangeOf, pairRangeOf};
-ghost use Rattle.pauli.specs.View.{at, entries, view};
+ghost use Rattle.pauli.specs.inner.View.{at, entries, view};
 
 // k·(k − 1): the pairs of two of k copies, each pair in both orders. An even number.
 fn ordered_pairs(k: Power) -> u64

@@ -8,7 +8,7 @@ ghost use Prim.Native.Nat.{_+_};
 ghost use lib.Dec.{eqb};
 ghost use Rattle.arith.specs.Refusals.{Dimension};
 ghost use Rattle.arith.specs.Units.{inverseOf};
-ghost use Rattle.pauli.specs.Touched.{viewTouched, still, OnOne, OnTwo};
+ghost use Rattle.pauli.specs.inner.Touched.{viewTouched, still, OnOne, OnTwo};
 ghost use Rattle.pauli.specs.Effects.{fourier, effectF, effectS, effectA, effectM, effectX, effectZ};
 
 pub struct Touched {

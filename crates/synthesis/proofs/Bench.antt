@@ -10,7 +10,7 @@ use Rattle.pauli.specs.Pauli.{Pauli, product, power, unitX, unitZ}
 use Rattle.gates.specs.Row.{F, S, A, Z, apply}
 use Rattle.tableau.specs.Tableau.{tableauOf}
 use Rattle.tableau.specs.Soundness.{soundnessOf}
-use Rattle.synthesis.specs.Reduce.{nearPower, straighten, gathered, firstColumn, partnerStraightened, partnerTurned, secondColumn, stage, reduce, synthesised}
+use Rattle.synthesis.specs.inner.Reduce.{nearPower, straighten, gathered, firstColumn, partnerStraightened, partnerTurned, secondColumn, stage, reduce, synthesised}
 
 -- a Pauli of one qudit
 abbrev pauli : ℕ → ℕ → ℕ → Pauli

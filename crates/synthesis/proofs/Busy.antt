@@ -11,7 +11,7 @@ use Rattle.arith.proofs.Cases.{eqb-case}
 use Rattle.arith.specs.Units.{inverseOf}
 use Rattle.arith.proofs.Units.{inverse-twice}
 use Rattle.gates.specs.Row.{Row, F, S, A, M, X, Z, Legal, AllLegal, none, more, undo}
-use Rattle.synthesis.specs.Reduce.{nearPower}
+use Rattle.synthesis.specs.inner.Reduce.{nearPower}
 use Rattle.synthesis.specs.Measures.{weigh, onA, both, Busy, AllBusy, nil, cons}
 use Rattle.synthesis.proofs.Steps.{near-high, near-not}
 use Rattle.synthesis.proofs.Count.{Weights}

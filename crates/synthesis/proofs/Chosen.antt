@@ -15,7 +15,7 @@ use Rattle.arith.specs.declared.checks.Answer.{Answer}
 use Rattle.gates.specs.Written.{written, encodeRows, rowsOf}
 use Rattle.gates.proofs.Written.{rows-bytes}
 use Rattle.tableau.specs.Bytes.{decodeTableau}
-use Rattle.synthesis.specs.Reduce.{synthesised}
+use Rattle.synthesis.specs.inner.Reduce.{synthesised}
 use Rattle.synthesis.specs.Demand3.{handed, synthesisRefusal, Synthesised}
 use Rattle.synthesis.specs.Chosen.{listOf, Chosen}
 use Rattle.synthesis.proofs.Handed.{stops-some}

@@ -12,7 +12,7 @@ use Rattle.arith.specs.Units.{leastMultiplier, inverseOf, divides, quotient}
 use Rattle.pauli.specs.Pauli.{Pauli}
 use Rattle.gates.specs.Row.{Row, F, S, A, M, X, Z}
 use Rattle.tableau.specs.Tableau.{upFrom, column}
-use Rattle.synthesis.specs.Reduce.{State, put, nearPower, putA, putS, putZ, vAt, wAt, minus, each, later, gatherW, exchange, clearW, straighten, gather, scale, clearV, phases}
+use Rattle.synthesis.specs.inner.Reduce.{State, put, nearPower, putA, putS, putZ, vAt, wAt, minus, each, later, gatherW, exchange, clearW, straighten, gather, scale, clearV, phases}
 use Rattle.synthesis.specs.Measures.{weigh}
 use Rattle.synthesis.proofs.Reached.{Reached, choose-case}
 

@@ -12,7 +12,7 @@ use Rattle.arith.proofs.Cases.{by-eq, eqb-case, bool-case}
 use Rattle.pauli.specs.Pauli.{Pauli}
 use Rattle.gates.specs.Row.{Row, F, A}
 use Rattle.tableau.specs.Tableau.{upFrom}
-use Rattle.synthesis.specs.Reduce.{State, put, each, later, onward, wAt, vAt, noV, straighten, clearPartnerW, clearPartnerV, shearPartner, gathered, firstColumn, partnerStraightened, partnerTurned, secondColumn, stage, phases, reduce}
+use Rattle.synthesis.specs.inner.Reduce.{State, put, each, later, onward, wAt, vAt, noV, straighten, clearPartnerW, clearPartnerV, shearPartner, gathered, firstColumn, partnerStraightened, partnerTurned, secondColumn, stage, phases, reduce}
 use Rattle.synthesis.specs.Measures.{weigh, both}
 use Rattle.synthesis.proofs.Reached.{choose-case}
 use Rattle.synthesis.proofs.Entries.{vOf}

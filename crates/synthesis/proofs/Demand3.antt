@@ -14,7 +14,7 @@ use Rattle.tableau.specs.Tableau.{WellFormed, Sound, column, tableauOf, image}
 use Rattle.tableau.proofs.Run.{run-image, tableau-formed, tableau-column, tableau-sound}
 use Rattle.tableau.specs.Soundness.{soundnessOf}
 use Rattle.tableau.proofs.Tests.{soundness-says}
-use Rattle.synthesis.specs.Reduce.{synthesised}
+use Rattle.synthesis.specs.inner.Reduce.{synthesised}
 use Rattle.synthesis.specs.Demand3.{Realises, Realisable}
 use Rattle.synthesis.proofs.Theorem.{synthesis, Synthesis}
 

@@ -7,7 +7,7 @@ use Rattle.arith.specs.Units.{leastMultiplier, inverseOf, firstBelow, divides, 
 use Rattle.pauli.specs.Pauli.{Pauli}
 use Rattle.gates.specs.Row.{F, S, A, M, X, Z}
 use Rattle.tableau.specs.Tableau.{tableauOf, units}
-use Rattle.synthesis.specs.Reduce.{nearPower, straighten, gathered, firstColumn, partnerStraightened, partnerTurned, secondColumn, stage, reduce, synthesised}
+use Rattle.synthesis.specs.inner.Reduce.{nearPower, straighten, gathered, firstColumn, partnerStraightened, partnerTurned, secondColumn, stage, reduce, synthesised}
 
 -- the text program's example
 abbrev whole : List Pauli

@@ -6,7 +6,7 @@ use native.Mathlib.Omega.{arith}
 use lib.ListN.{length}
 use Rattle.pauli.specs.Pauli.{Pauli}
 use Rattle.tableau.specs.Tableau.{WellFormed, Sound}
-use Rattle.synthesis.specs.Reduce.{synthesised}
+use Rattle.synthesis.specs.inner.Reduce.{synthesised}
 use Rattle.synthesis.specs.Measures.{onA, both, Prime, Expected}
 use Rattle.synthesis.proofs.Count.{costs}
 use Rattle.synthesis.proofs.CountSecond.{tri-twice, pairs-const, pairs-one}

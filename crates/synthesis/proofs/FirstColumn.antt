@@ -18,7 +18,7 @@ use Rattle.arith.specs.Units.{IsUnit, leastMultiplier, inverseOf}
 use Rattle.arith.proofs.Units.{least-below, least-gcd, inverse-below, inverse-pos, inverse-unit, scaled-one}
 use Rattle.pauli.specs.Pauli.{Pauli, InRange, dot}
 use Rattle.pauli.proofs.Dots.{dvd-dot}
-use Rattle.synthesis.specs.Reduce.{State, vAt, each, later, onward, minus, straighten, gather, scale, clearV, gathered, firstColumn}
+use Rattle.synthesis.specs.inner.Reduce.{State, vAt, each, later, onward, minus, straighten, gather, scale, clearV, gathered, firstColumn}
 use Rattle.synthesis.proofs.Entries.{IsX, IsZ, vOf, wOf, local-m, w-after-a}
 use Rattle.synthesis.proofs.Steps.{Base, ZeroBefore, col, col-range, put-a, put-m, locally, base-a, base-local, first-before, pair, each-law}
 use Rattle.synthesis.proofs.Straighten.{straighten-law, gathered-from}

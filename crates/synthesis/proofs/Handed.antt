@@ -20,11 +20,11 @@ use Rattle.gates.specs.Written.{WrittenRow, written, meant, encodeRows, listRow
 use Rattle.gates.proofs.Written.{list-encoded, rows-meant, all-legal-written, rows-bytes}
 use Rattle.tableau.specs.Tableau.{WellFormed, Sound, Pairing, Even}
 use Rattle.tableau.specs.Bytes.{decodeTableau}
-use Rattle.tableau.specs.Parts.{sizedOf, testsOf}
+use Rattle.tableau.specs.inner.Parts.{sizedOf, testsOf}
 use Rattle.tableau.specs.Soundness.{soundnessOf}
 use Rattle.tableau.proofs.Tests.{soundness-says, sound-good}
-use Rattle.synthesis.specs.Reduce.{State, start, reduce, synthesised}
-use Rattle.synthesis.specs.Progress.{undoRows, Holds}
+use Rattle.synthesis.specs.inner.Reduce.{State, start, reduce, synthesised}
+use Rattle.synthesis.specs.inner.Progress.{undoRows, Holds}
 use Rattle.synthesis.specs.Demand3.{Realises, Realisable, malformedOf, synthesisRefusal, handed, HandsBack, WellGiven, Synthesised}
 use Rattle.synthesis.proofs.Premises.{malformed-exactly, formed-given}
 use Rattle.synthesis.proofs.Progress.{undo-length}

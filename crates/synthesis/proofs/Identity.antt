@@ -18,7 +18,7 @@ use Rattle.pauli.proofs.Units.{unit-x, unit-z}
 use Rattle.gates.specs.Row.{S, A, M, X, Z, undo}
 use Rattle.tableau.specs.Tableau.{units, upFrom}
 use Rattle.tableau.proofs.Columns.{column-units}
-use Rattle.synthesis.specs.Reduce.{State, start, put, nearPower, putX, putZ, vAt, wAt, minus, each, later, onward, gatherW, exchange, clearW, straighten, noV, gather, scale, clearV, clearPartnerW, gathered, firstColumn, partnerStraightened, partnerTurned, secondColumn, stage, phases, reduce, synthesised}
+use Rattle.synthesis.specs.inner.Reduce.{State, start, put, nearPower, putX, putZ, vAt, wAt, minus, each, later, onward, gatherW, exchange, clearW, straighten, noV, gather, scale, clearV, clearPartnerW, gathered, firstColumn, partnerStraightened, partnerTurned, secondColumn, stage, phases, reduce, synthesised}
 use Rattle.synthesis.proofs.Reached.{choose-case}
 use Rattle.synthesis.proofs.Entries.{IsX, IsZ, vOf}
 use Rattle.synthesis.proofs.Steps.{col}

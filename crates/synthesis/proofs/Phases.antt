@@ -19,7 +19,7 @@ use Rattle.pauli.proofs.Units.{unit-case}
 use Rattle.gates.specs.Row.{X, Z}
 use Rattle.tableau.specs.Tableau.{upFrom, units}
 use Rattle.tableau.proofs.Columns.{length-units, column-units}
-use Rattle.synthesis.specs.Reduce.{State, each, minus, put, putX, putZ, phases}
+use Rattle.synthesis.specs.inner.Reduce.{State, each, minus, put, putX, putZ, phases}
 use Rattle.synthesis.proofs.Reached.{Reached, choose-case}
 use Rattle.synthesis.proofs.Entries.{IsX, IsZ, vOf, wOf}
 use Rattle.synthesis.proofs.Steps.{Effect, Base, col, col-range, put-step, none-step, base-step, each-law}

@@ -15,7 +15,7 @@ use Rattle.arith.proofs.Units.{least-zero}
 use Rattle.pauli.specs.Pauli.{Pauli}
 use Rattle.pauli.proofs.Ranges.{v-less}
 use Rattle.gates.specs.Row.{Row, F, S}
-use Rattle.synthesis.specs.Reduce.{State, put, nearPower, vAt, wAt, gatherW, exchange, clearW, straighten}
+use Rattle.synthesis.specs.inner.Reduce.{State, put, nearPower, vAt, wAt, gatherW, exchange, clearW, straighten}
 use Rattle.synthesis.specs.Measures.{Prime}
 use Rattle.synthesis.proofs.Reached.{Reached}
 use Rattle.synthesis.proofs.Steps.{col-range, put-f, put-f3}

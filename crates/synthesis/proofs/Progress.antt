@@ -17,8 +17,8 @@ use Rattle.gates.specs.Row.{Row, F, A, X, Z, Legal, apply, undo}
 use Rattle.gates.specs.Written.{WrittenRow, onOne, onTwo, written, meant, rowNumbers, listNumbers, encodeRows}
 use Rattle.gates.proofs.Written.{legal-written, meant-of-written, listNumbers-length}
 use Rattle.tableau.specs.Tableau.{upFrom}
-use Rattle.synthesis.specs.Reduce.{State, put, putA, putX, putZ, each, start}
-use Rattle.synthesis.specs.Progress.{undoRows, Holds, Does, Says}
+use Rattle.synthesis.specs.inner.Reduce.{State, put, putA, putX, putZ, each, start}
+use Rattle.synthesis.specs.inner.Progress.{undoRows, Holds, Does, Says}
 use Rattle.synthesis.proofs.Steps.{each-more}
 
 -- ---- rows in bytes

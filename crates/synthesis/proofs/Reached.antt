@@ -13,7 +13,7 @@ use Rattle.gates.proofs.Rows.{row-hom}
 use Rattle.gates.proofs.Run.{runLast}
 use Rattle.tableau.specs.Tableau.{WellFormed, Sound}
 use Rattle.tableau.proofs.Columns.{map-formed, map-sound}
-use Rattle.synthesis.specs.Reduce.{State, put}
+use Rattle.synthesis.specs.inner.Reduce.{State, put}
 
 pub record Reached (d n : ℕ) (t₀ : List Pauli) (s : State) : Type 0 where
   pub large : 1 < d

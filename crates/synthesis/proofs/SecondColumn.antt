@@ -15,7 +15,7 @@ use Rattle.pauli.specs.Pauli.{Pauli}
 use Rattle.pauli.proofs.Ranges.{w-less}
 use Rattle.gates.specs.Row.{F}
 use Rattle.tableau.specs.Tableau.{upFrom}
-use Rattle.synthesis.specs.Reduce.{State, put, each, later, onward, straighten, clearPartnerW, clearPartnerV, shearPartner, noV, firstColumn, partnerStraightened, partnerTurned, secondColumn, stage}
+use Rattle.synthesis.specs.inner.Reduce.{State, put, each, later, onward, straighten, clearPartnerW, clearPartnerV, shearPartner, noV, firstColumn, partnerStraightened, partnerTurned, secondColumn, stage}
 use Rattle.synthesis.proofs.Entries.{IsX, IsZ, vOf, wOf, local-s, local-f, local-f3, x-after-a, z-after-a, z-after-s, x-after-local, x-to-z, z-to-x, comm-x-l}
 use Rattle.synthesis.proofs.Steps.{Base, col, col-range, put-s, put-a, put-f, put-f3, locally, base-a, base-local, second-before, pair, each-law}
 use Rattle.synthesis.proofs.Straighten.{straighten-law}

@@ -7,7 +7,7 @@ use native.Mathlib.Omega.{arith}
 use Rattle.arith.specs.Units.{IsUnit}
 use Rattle.pauli.specs.Pauli.{Pauli}
 use Rattle.tableau.specs.Tableau.{WellFormed, Sound, upFrom}
-use Rattle.synthesis.specs.Reduce.{State, start, vAt, each, gathered, stage}
+use Rattle.synthesis.specs.inner.Reduce.{State, start, vAt, each, gathered, stage}
 use Rattle.synthesis.proofs.Progress.{upTo}
 use Rattle.synthesis.proofs.Theorem.{stage-unit}
 

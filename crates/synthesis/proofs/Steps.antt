@@ -18,7 +18,7 @@ use Rattle.gates.specs.Row.{Row, F, S, A, M, Legal, apply}
 use Rattle.gates.proofs.Rows.{row-hom}
 use Rattle.tableau.specs.Tableau.{column, upFrom, paired}
 use Rattle.tableau.proofs.Columns.{column-range, column-map}
-use Rattle.synthesis.specs.Reduce.{State, put, nearPower, putS, putA, putM, each}
+use Rattle.synthesis.specs.inner.Reduce.{State, put, nearPower, putS, putA, putM, each}
 use Rattle.synthesis.proofs.Reached.{Reached, put-reached, choose-case}
 use Rattle.synthesis.proofs.Entries.{AfterS, AfterA, AfterM, AfterF, AfterF3, Local, IsX, IsZ, vOf, wOf, after-s, after-a, after-a-none, after-m, after-m-none, after-f, after-f3, local-then, x-after-local, z-after-local, x-after-a, z-after-a, comm-x-l, comm-z-l, comm-z-r}
 

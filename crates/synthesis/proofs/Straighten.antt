@@ -15,7 +15,7 @@ use Rattle.arith.proofs.Units.{least-gcd}
 use Rattle.arith.proofs.Quotient.{quotient-times, dvd-minus, minus-dvd, level-zero, rem-dvd}
 use Rattle.pauli.specs.Pauli.{Pauli}
 use Rattle.gates.specs.Row.{F}
-use Rattle.synthesis.specs.Reduce.{State, put, putS, minus, gatherW, exchange, clearW, straighten}
+use Rattle.synthesis.specs.inner.Reduce.{State, put, putS, minus, gatherW, exchange, clearW, straighten}
 use Rattle.synthesis.proofs.Reached.{Reached}
 use Rattle.synthesis.proofs.Entries.{Local, vOf, wOf, local-s, local-f, local-f3}
 use Rattle.synthesis.proofs.Steps.{Effect, col, put-s, put-f, put-f3, locally, local-effects}

@@ -11,7 +11,7 @@ use Rattle.gates.specs.Row.{Row, AllLegal, none, run, undo}
 use Rattle.gates.proofs.Run.{runLast, run-undoes, undo-legal}
 use Rattle.tableau.specs.Tableau.{WellFormed, Sound, units, tableauOf, upFrom}
 use Rattle.tableau.proofs.Columns.{map-same}
-use Rattle.synthesis.specs.Reduce.{State, start, vAt, each, gathered, stage, reduce, synthesised}
+use Rattle.synthesis.specs.inner.Reduce.{State, start, vAt, each, gathered, stage, reduce, synthesised}
 use Rattle.synthesis.specs.Measures.{weigh}
 use Rattle.synthesis.proofs.Reached.{Reached}
 use Rattle.synthesis.proofs.Steps.{Base}

@@ -6,7 +6,7 @@ use Prim.Native.Nat.{ℕ}
 use Rattle.arith.specs.declared.checks.Answer.{Answer}
 use Rattle.gates.specs.Written.{written, encodeRows}
 use Rattle.tableau.specs.Bytes.{decodeTableau}
-use Rattle.synthesis.specs.Reduce.{synthesised}
+use Rattle.synthesis.specs.inner.Reduce.{synthesised}
 use Rattle.synthesis.specs.Demand3.{handed}
 
 -- the list's bytes

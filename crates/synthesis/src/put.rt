@@ -10,11 +10,11 @@ ghost use lib.Seq.{sets};
 ghost use Rattle.arith.specs.Refusals.{Dimension};
 ghost use Rattle.pauli.specs.Pauli.{Pauli};
 ghost use Rattle.gates.specs.Written.{encodeRows};
-ghost use Rattle.gates.specs.View.{viewRow};
-ghost use Rattle.tableau.specs.View.{tableView, Shaped};
-ghost use Rattle.synthesis.specs.Reduce.{each, later};
-ghost use Rattle.synthesis.specs.Progress.{Does};
-ghost use Rattle.synthesis.specs.Turns.{turnOf, Asks};
+ghost use Rattle.gates.specs.inner.View.{viewRow};
+ghost use Rattle.tableau.specs.inner.View.{tableView, Shaped};
+ghost use Rattle.synthesis.specs.inner.Reduce.{each, later};
+ghost use Rattle.synthesis.specs.inner.Progress.{Does};
+ghost use Rattle.synthesis.specs.inner.Turns.{turnOf, Asks};
 
 // Writes a row as row r of the output.
 pub fn write_row(row: Row, out: &mut [u8], r: usize)

@@ -11,9 +11,9 @@ ghost use lib.ListN.{length};
 ghost use Rattle.arith.specs.Units.{IsUnit};
 ghost use Rattle.arith.specs.Refusals.{Dimension};
 ghost use Rattle.tableau.specs.Tableau.{WellFormed, Sound, column, upFrom};
-ghost use Rattle.tableau.specs.View.{tableView, Shaped};
-ghost use Rattle.synthesis.specs.Reduce.{start, vAt, each, clearing, noV, straighten, gathered, firstColumn, partnerStraightened, secondColumn, stage, phases};
-ghost use Rattle.synthesis.specs.Progress.{Does};
+ghost use Rattle.tableau.specs.inner.View.{tableView, Shaped};
+ghost use Rattle.synthesis.specs.inner.Reduce.{start, vAt, each, clearing, noV, straighten, gathered, firstColumn, partnerStraightened, secondColumn, stage, phases};
+ghost use Rattle.synthesis.specs.inner.Progress.{Does};
 
 // Whether v of column c is 0 at qudit `from` and every later one.
 fn no_v(t: &[[u16; 33]; 32], c: usize, from: usize, n: usize) -> bool

@@ -13,11 +13,11 @@ ghost use Rattle.arith.specs.Units.{IsUnit};
 ghost use Rattle.arith.specs.Refusals.{Dimension};
 ghost use Rattle.pauli.specs.Pauli.{Pauli};
 ghost use Rattle.gates.specs.Written.{onOne, onTwo};
-ghost use Rattle.gates.specs.View.{viewRow};
-ghost use Rattle.tableau.specs.View.{tableView};
-ghost use Rattle.synthesis.specs.Reduce.{putS, putM};
-ghost use Rattle.synthesis.specs.Progress.{Says};
-ghost use Rattle.synthesis.specs.Turns.{turnOf, Asks};
+ghost use Rattle.gates.specs.inner.View.{viewRow};
+ghost use Rattle.tableau.specs.inner.View.{tableView};
+ghost use Rattle.synthesis.specs.inner.Reduce.{putS, putM};
+ghost use Rattle.synthesis.specs.inner.Progress.{Says};
+ghost use Rattle.synthesis.specs.inner.Turns.{turnOf, Asks};
 
 // The turns: those of column c at qudit j, S on qudit j with power k, those of a later qudit j, those of the stage's qudit q, and those of its phases.
 pub enum Turn {

@@ -11,7 +11,7 @@ use Rattle.gates.specs.Written.{listRows, allLegalRows}
 use Rattle.tableau.specs.Tableau.{WellFormed, Sound}
 use Rattle.tableau.specs.Bytes.{tableauBytes, decodeTableau}
 use Rattle.tableau.specs.Calls.{tableauRefusal, imageRefusal, composeRefusal, inverseRefusal}
-use Rattle.tableau.specs.Parts.{sizedOf, imageLengths, composeLengths, inverseLengths, testsOf, imageTests, composeTests}
+use Rattle.tableau.specs.inner.Parts.{sizedOf, imageLengths, composeLengths, inverseLengths, testsOf, imageTests, composeTests}
 
 -- a tableau in bytes that is taken: of the right length, in range and sound
 pub record Taken (d n : ℕ) (b : List ℕ) : Type 0 where

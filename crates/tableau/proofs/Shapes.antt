@@ -12,7 +12,7 @@ use denote.Laws.{Is}
 use denote.RattleType.{RattleType}
 use denote.Shadow.{shadow}
 use borrow.Table.Referent.{rtF, fInt}
-use Rattle.tableau.specs.View.{Shaped}
+use Rattle.tableau.specs.inner.View.{Shaped}
 
 abbrev u16 : RattleType
 u16 = rtF (fInt w16)

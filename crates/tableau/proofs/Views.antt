@@ -11,12 +11,12 @@ use Rattle.arith.proofs.Bytes.{tab-at, tab-ext, tab-map, tab-length}
 use Rattle.arith.proofs.Cases.{by-eq}
 use Rattle.pauli.specs.Pauli.{Pauli, phaseOnly}
 use Rattle.pauli.specs.Bytes.{numbersOf}
-use Rattle.pauli.specs.Touched.{Touched, touched, replaced, Has}
+use Rattle.pauli.specs.inner.Touched.{Touched, touched, replaced, Has}
 use Rattle.pauli.proofs.Ranges.{pauli-path}
 use Rattle.pauli.proofs.Entries.{tab-zero}
 use Rattle.pauli.proofs.Lists.{getD-zeros, zeros-length, set-next}
 use Rattle.tableau.specs.Tableau.{column}
-use Rattle.tableau.specs.View.{columnView, tableView, Shaped}
+use Rattle.tableau.specs.inner.View.{columnView, tableView, Shaped}
 
 -- ---- the numbers of a column, as the view has them
 module _ (n : ℕ) (t : List (List ℕ)) where

@@ -1,8 +1,8 @@
-pub mod Bytes
-pub mod Calls
-pub mod Inverse
-pub mod Parts
-pub mod Range
-pub mod Soundness
+-- In the order to read them. `inner` has what the contracts of functions inside the crate speak of: no reader needs it to believe what a public call promises.
 pub mod Tableau
-pub mod View
+pub mod Soundness
+pub mod Inverse
+pub mod Bytes
+pub mod Range
+pub mod Calls
+pub mod inner

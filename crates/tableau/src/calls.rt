@@ -7,12 +7,12 @@ ghost use lib.ListN.{length};
 ghost use Rattle.arith.specs.Refusals.{Dimension, numberOf, orElse};
 ghost use Rattle.arith.specs.Answers.{Written};
 ghost use Rattle.pauli.specs.Bytes.{pauliBytes, decode};
-ghost use Rattle.pauli.specs.View.{view};
+ghost use Rattle.pauli.specs.inner.View.{view};
 ghost use Rattle.tableau.specs.Bytes.{tableauBytes, decodeTableau};
-ghost use Rattle.tableau.specs.Parts.{sizedOf, imageLengths, composeLengths, inverseLengths, testsOf, imageTests, composeTests};
+ghost use Rattle.tableau.specs.inner.Parts.{sizedOf, imageLengths, composeLengths, inverseLengths, testsOf, imageTests, composeTests};
 ghost use Rattle.tableau.specs.Range.{tableauRangeOf};
 ghost use Rattle.tableau.specs.Soundness.{bothSoundnessOf};
-ghost use Rattle.tableau.specs.View.{tableView};
+ghost use Rattle.tableau.specs.inner.View.{tableView};
 ghost use Rattle.tableau.specs.Calls.{tableauRefusal, tableauAnswer, imageRefusal, imageAnswer, composeRefusal, composeAnswer, inverseRefusal, inverseAnswer};
 
 // How many bytes a tableau takes.

@@ -5,9 +5,9 @@ ghost use mathlib.Core.Path.{_≡_};
 ghost use Prim.Native.Nat.{_*_, _≤_, _<_};
 ghost use Rattle.arith.specs.Refusals.{Dimension, numberOf, pairingOf, parityOf};
 ghost use Rattle.tableau.specs.Tableau.{paired};
-ghost use Rattle.tableau.specs.Parts.{testsOf};
+ghost use Rattle.tableau.specs.inner.Parts.{testsOf};
 ghost use Rattle.tableau.specs.Range.{tableauRangeOf};
-ghost use Rattle.tableau.specs.View.{tableView};
+ghost use Rattle.tableau.specs.inner.View.{tableView};
 ghost use Rattle.tableau.specs.Soundness.{pairPasses, laterPass, pairingHolds, parityHolds, soundnessOf};
 
 // The commutation number that columns j < k must have: d − 1 if k = j + n, else 0.

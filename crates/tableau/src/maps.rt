@@ -8,10 +8,10 @@ ghost use mathlib.Core.List.{_++_};
 ghost use Prim.Native.Nat.{_*_, _≤_, _<_};
 ghost use lib.ListN.{getD};
 ghost use Rattle.arith.specs.Refusals.{Dimension};
-ghost use Rattle.pauli.specs.View.{view, entries};
+ghost use Rattle.pauli.specs.inner.View.{view, entries};
 ghost use Rattle.tableau.specs.Tableau.{image, AllInRange};
 ghost use Rattle.tableau.specs.Inverse.{drawn, preimage};
-ghost use Rattle.tableau.specs.View.{tableView};
+ghost use Rattle.tableau.specs.inner.View.{tableView};
 
 // The power that column j gets in the image of p: v at j below n, w at j − n from n on.
 fn exponent(p: Pauli, j: usize, n: usize) -> Power

@@ -8,13 +8,13 @@ ghost use lib.Seq.{sets};
 ghost use Rattle.arith.specs.Bytes.{front};
 ghost use Rattle.arith.specs.Refusals.{Dimension};
 ghost use Rattle.pauli.specs.Bytes.{encode};
-ghost use Rattle.pauli.specs.View.{view};
+ghost use Rattle.pauli.specs.inner.View.{view};
 ghost use Rattle.gates.specs.Written.{listRows, allLegalRows};
 ghost use Rattle.tableau.specs.Tableau.{WellFormed, Sound, compose};
 ghost use Rattle.tableau.specs.Inverse.{inverse};
 ghost use Rattle.tableau.specs.Bytes.{tableauBytes, encodeTableau};
 ghost use Rattle.tableau.specs.Calls.{tableauAnswer};
-ghost use Rattle.tableau.specs.View.{tableView};
+ghost use Rattle.tableau.specs.inner.View.{tableView};
 
 // Writes column j.
 fn write_column(c: Pauli, out: &mut [u8], j: usize, n: usize)

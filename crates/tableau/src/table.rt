@@ -13,14 +13,14 @@ ghost use lib.ListN.{length, getD};
 ghost use Rattle.arith.specs.Refusals.{Dimension};
 ghost use Rattle.pauli.specs.Pauli.{phaseOnly, unit};
 ghost use Rattle.pauli.specs.Bytes.{decodeAt};
-ghost use Rattle.pauli.specs.View.{view};
-ghost use Rattle.pauli.specs.Touched.{viewTouched, touched, replaced};
+ghost use Rattle.pauli.specs.inner.View.{view};
+ghost use Rattle.pauli.specs.inner.Touched.{viewTouched, touched, replaced};
 ghost use Rattle.gates.specs.Row.{apply};
 ghost use Rattle.gates.specs.Written.{meant, legalRow};
-ghost use Rattle.gates.specs.View.{viewRow, InverseRight};
+ghost use Rattle.gates.specs.inner.View.{viewRow, InverseRight};
 ghost use Rattle.tableau.specs.Tableau.{column, units};
 ghost use Rattle.tableau.specs.Bytes.{tableauBytes, decodeTableau};
-ghost use Rattle.tableau.specs.View.{columnView, tableView, Shaped};
+ghost use Rattle.tableau.specs.inner.View.{columnView, tableView, Shaped};
 
 // ---- its numbers
 

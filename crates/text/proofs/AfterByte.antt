@@ -8,7 +8,7 @@ use native.Mathlib.Omega.{arith}
 use lib.Dec.{eqb}
 use lib.ListN.{length, getD, drop}
 use lib.Seq.{drop-cons}
-use Rattle.text.specs.parts.Scan.{Within, used, valueOf, grownOf, letterDue, inHead, commaOf, headComma, bodyComma, lineOf, headLine, bodyLine, endedOf, afterByte, outAfterByte, scanned}
+use Rattle.text.specs.inner.Scan.{Within, used, valueOf, grownOf, letterDue, inHead, commaOf, headComma, bodyComma, lineOf, headLine, bodyLine, endedOf, afterByte, outAfterByte, scanned}
 use Rattle.text.specs.declared.reading.Field.{Field}
 use Rattle.text.specs.declared.reading.Field.the-variants.{Empty, Number, Whole, Bad}
 use Rattle.text.specs.declared.reading.Value.{Value}

@@ -13,8 +13,8 @@ use Rattle.arith.proofs.Bytes.{bytes-length}
 use Rattle.gates.specs.Written.{rowNumbers}
 use Rattle.text.specs.Format.{line, concatenated, File, tableauFile, listFile, FileFits, printFile, LaidOut}
 use Rattle.text.specs.Convert.{fullColumns}
-use Rattle.text.specs.parts.Reads.{fileNumbers, readingOf, Reads, answerOf}
-use Rattle.text.specs.parts.Scan.{Within, Held, scanned, afterByte, outAfterByte, openingOf, startOf}
+use Rattle.text.specs.inner.Reads.{fileNumbers, readingOf, Reads, answerOf}
+use Rattle.text.specs.inner.Scan.{Within, Held, scanned, afterByte, outAfterByte, openingOf, startOf}
 use Rattle.text.specs.declared.reading.Form.the-variants.{Column, GateRow}
 use Rattle.text.specs.declared.reading.Reading.the-variants.{NoFile}
 use Rattle.text.specs.declared.reading.State.{State}

@@ -13,8 +13,8 @@ use Rattle.arith.proofs.Bytes.{bytes-append, bytes-length, number-bytes, tab-ex
 use Rattle.gates.specs.Written.{WrittenRow, rowNumbers, rowAt}
 use Rattle.text.specs.Format.{File, tableauFile, listFile, concatenated, LaidOut}
 use Rattle.text.specs.Convert.{fullColumns}
-use Rattle.text.specs.parts.Reads.{fileNumbers, readingOf, Reads, ColumnsRead, RowsRead}
-use Rattle.text.specs.parts.Prints.{columnsAt, tableauFileOf, listFileOf}
+use Rattle.text.specs.inner.Reads.{fileNumbers, readingOf, Reads, ColumnsRead, RowsRead}
+use Rattle.text.specs.inner.Prints.{columnsAt, tableauFileOf, listFileOf}
 use Rattle.text.specs.declared.reading.Reading.{Reading}
 use Rattle.text.specs.declared.reading.Reading.the-variants.{NoFile, Tableau, Rows}
 use Rattle.text.proofs.Unique.{one-file}

@@ -8,7 +8,7 @@ use lib.Dec.{ltb, eqb}
 use lib.ListN.{length, length-append}
 use borrow.Author.Tests.{ltb-true, ltb-false, lt-ltb, le-ltb, ne-eqb}
 use Rattle.text.specs.Format.{decimal, digits, letterOf, Fits}
-use Rattle.text.specs.parts.Scan.{kindOf, letterField, firstDigit, nextDigit, valueOf}
+use Rattle.text.specs.inner.Scan.{kindOf, letterField, firstDigit, nextDigit, valueOf}
 use Rattle.text.specs.declared.reading.Field.{Field}
 use Rattle.text.specs.declared.reading.Field.the-variants.{Number, Whole}
 use Rattle.text.specs.declared.reading.Value.the-variants.{Is}

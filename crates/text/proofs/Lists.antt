@@ -26,9 +26,9 @@ use Rattle.tableau.proofs.Accepted.{tableau-accepted}
 use Rattle.tableau.proofs.Bytes.{tableau-small}
 use Rattle.tableau.proofs.Run.{tableau-formed}
 use Rattle.text.specs.Format.{tableauFile, concatenated, printFile, printRefusal}
-use Rattle.text.specs.parts.Prints.{Prints, tableauFileOf}
+use Rattle.text.specs.inner.Prints.{Prints, tableauFileOf}
 use Rattle.text.specs.Convert.{fullColumns, rowCountOf, listRefusal, tableauPrint}
-use Rattle.text.specs.parts.FromBytes.{outcomeOf, ListConverts}
+use Rattle.text.specs.inner.FromBytes.{outcomeOf, ListConverts}
 use Rattle.text.specs.declared.Outcome.{Outcome}
 use Rattle.text.specs.declared.Outcome.the-variants.{Done, Refused}
 use Rattle.text.proofs.Back.{tableau-back}

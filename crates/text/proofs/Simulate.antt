@@ -14,7 +14,7 @@ use Rattle.arith.proofs.Bytes.{write-more}
 use Rattle.gates.specs.Written.{WrittenRow, rowNumbers}
 use Rattle.text.specs.Format.{decimal, digits, line, letterOf, rowLine, columnLine, concatenated, Every, Fits, ColumnFits, RowFits}
 use Rattle.text.specs.Convert.{fullColumns}
-use Rattle.text.specs.parts.Scan.{Held, scanned, afterByte, outAfterByte, grownOf, letterDue, valueOf, commaOf, lineOf, keptOf, startOf}
+use Rattle.text.specs.inner.Scan.{Held, scanned, afterByte, outAfterByte, grownOf, letterDue, valueOf, commaOf, lineOf, keptOf, startOf}
 use Rattle.text.specs.declared.reading.Form.{Form}
 use Rattle.text.specs.declared.reading.Form.the-variants.{TableHead, ListHead, Column, GateRow}
 use Rattle.text.specs.declared.reading.Field.{Field}

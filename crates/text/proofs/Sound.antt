@@ -11,9 +11,9 @@ use lib.ListN.{length, length-append}
 use borrow.Author.Tests.{ltb-false, eqb-true, eqb-false, ne-eqb}
 use Rattle.gates.specs.Written.{WrittenRow}
 use Rattle.text.specs.Format.{digits, line, letterOf, File, tableauFile, listFile, header, rowLine, columnLine, concatenated, Every, Fits, ColumnFits, RowFits, FileFits, printFile}
-use Rattle.text.specs.parts.Reads.{answerAt, answerOf}
+use Rattle.text.specs.inner.Reads.{answerAt, answerOf}
 use Rattle.text.specs.declared.reading.Reading.the-variants.{NoFile}
-use Rattle.text.specs.parts.Scan.{kindOf, letterField, firstDigit, nextDigit, grownOf, valueOf, inHead, letterDue, afterLine, brokenOf, grow, commaOf, headComma, bodyComma, lineOf, headLine, bodyLine, endedOf, afterByte, outAfterByte, scanned, openingOf, startOf}
+use Rattle.text.specs.inner.Scan.{kindOf, letterField, firstDigit, nextDigit, grownOf, valueOf, inHead, letterDue, afterLine, brokenOf, grow, commaOf, headComma, bodyComma, lineOf, headLine, bodyLine, endedOf, afterByte, outAfterByte, scanned, openingOf, startOf}
 use Rattle.text.specs.declared.reading.Form.{Form}
 use Rattle.text.specs.declared.reading.Form.the-variants.{TableHead, ListHead, Column, GateRow, Broken}
 use Rattle.text.specs.declared.reading.Field.{Field}

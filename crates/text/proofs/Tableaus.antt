@@ -29,9 +29,9 @@ use Rattle.tableau.specs.Soundness.{soundnessOf}
 use Rattle.synthesis.specs.Demand3.{Realisable, malformedOf, synthesisRefusal, handed, Synthesised}
 use Rattle.synthesis.proofs.Handed.{accepted-given, square-small}
 use Rattle.text.specs.Format.{digits, line, listFile, header, rowLine, concatenated, Every, RowFits, printFile, printRefusal}
-use Rattle.text.specs.parts.Prints.{columnsAt, listFileOf}
+use Rattle.text.specs.inner.Prints.{columnsAt, listFileOf}
 use Rattle.text.specs.Convert.{fullColumns, pauliOf, countsOf, columnsMalformed, columnsRefusal, PrintsList}
-use Rattle.text.specs.parts.FromBytes.{TableauConverts, ColumnsConvert}
+use Rattle.text.specs.inner.FromBytes.{TableauConverts, ColumnsConvert}
 use Rattle.text.proofs.Digits.{five-digits}
 use Rattle.text.proofs.Back.{full-length, columns-back}
 use Rattle.text.proofs.Lists.{given-first, has-room}

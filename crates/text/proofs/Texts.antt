@@ -11,9 +11,9 @@ use Rattle.arith.specs.declared.checks.Refusal.the-variants.{Text}
 use Rattle.arith.specs.Bytes.{bytesOf}
 use Rattle.gates.specs.Written.{WrittenRow, rowNumbers, encodeRows}
 use Rattle.text.specs.Format.{File, tableauFile, listFile, concatenated, printRefusal, LaidOut}
-use Rattle.text.specs.parts.Reads.{Reads, ColumnsRead, RowsRead}
+use Rattle.text.specs.inner.Reads.{Reads, ColumnsRead, RowsRead}
 use Rattle.text.specs.Convert.{PrintsFor, Converts, InputFits, ConvertsInput}
-use Rattle.text.specs.parts.FromBytes.{ListConverts, ColumnsConvert}
+use Rattle.text.specs.inner.FromBytes.{ListConverts, ColumnsConvert}
 use Rattle.text.specs.declared.Input.{Input}
 use Rattle.text.specs.declared.Input.the-variants.{Complete, Incomplete}
 use Rattle.text.specs.declared.reading.Reading.{Reading}

@@ -9,7 +9,7 @@ use lib.ListN.{length, length-append}
 use borrow.Author.Tests.{ltb-true, ltb-false}
 use Rattle.gates.specs.Written.{WrittenRow}
 use Rattle.text.specs.Format.{decimal, digits, line, letterOf, File, tableauFile, listFile, rowLine, columnLine, concatenated, Every, ColumnFits, RowFits, FileFits, printFile, printRefusal, LaidOut}
-use Rattle.text.specs.parts.Scan.{letterField}
+use Rattle.text.specs.inner.Scan.{letterField}
 use Rattle.text.specs.declared.reading.Field.the-variants.{Whole}
 use Rattle.text.proofs.Digits.{decimal-low, decimal-high, Letter, letter}
 use Rattle.text.proofs.Sound.{every-snoc}

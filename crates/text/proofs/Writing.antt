@@ -11,7 +11,7 @@ use Rattle.arith.proofs.Bytes.{tab-more, sets-append}
 use Rattle.arith.specs.Bytes.{tab, numberAt, numbersAt}
 use Rattle.gates.specs.Written.{rowAt}
 use Rattle.text.specs.Format.{digits, line, letterOf, header, columnLine, rowLine, concatenated, printRefusal}
-use Rattle.text.specs.parts.Prints.{PutsText, Prints}
+use Rattle.text.specs.inner.Prints.{PutsText, Prints}
 use Rattle.text.proofs.Digits.{digits-low, digits-last}
 use Rattle.text.proofs.Sound.{header-text, commas, commas-snoc, line-snoc, concatenated-snoc}
 

@@ -1,4 +1,4 @@
--- `Format` and `Convert` say what the program does. `parts` says what each function inside it does: the program's promise doesn't rest on it.
+-- In the order to read them. `inner` has what the contracts of functions inside the crate speak of: no reader needs it to believe what the program promises.
 pub mod Format
 pub mod Convert
-pub mod parts
+pub mod inner

@@ -15,8 +15,8 @@ ghost use Rattle.arith.specs.Refusals.{refusalNumber, numberOf, orElse, givenOf
 ghost use Rattle.arith.specs.declared.checks.Refusal.the-variants.{Text};
 ghost use Rattle.text.specs.Format.{printRefusal};
 ghost use Rattle.text.specs.Convert.{countsOf, Converts, InputFits, ConvertsInput};
-ghost use Rattle.text.specs.parts.Prints.{Prints};
-ghost use Rattle.text.specs.parts.FromBytes.{outcomeOf, ListConverts, TableauConverts, ColumnsConvert};
+ghost use Rattle.text.specs.inner.Prints.{Prints};
+ghost use Rattle.text.specs.inner.FromBytes.{outcomeOf, ListConverts, TableauConverts, ColumnsConvert};
 
 pub mod printing;
 pub mod reading;

@@ -6,7 +6,7 @@ ghost use lib.ListN.{length};
 ghost use Rattle.arith.specs.Bytes.{tab, numbersAt};
 ghost use Rattle.gates.specs.Written.{rowAt};
 ghost use Rattle.text.specs.Format.{digits, letterOf, header, columnLine, rowLine, concatenated, printFile, printRefusal};
-ghost use Rattle.text.specs.parts.Prints.{PutsText, Prints, columnsAt, tableauFileOf, listFileOf};
+ghost use Rattle.text.specs.inner.Prints.{PutsText, Prints, columnsAt, tableauFileOf, listFileOf};
 
 // Writes the digits of x. Each function here writes from position `at` on and returns the position after what it wrote.
 fn print_number(out: &mut [u8], at: usize, x: u16) -> usize

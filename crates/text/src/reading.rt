@@ -3,8 +3,8 @@ ghost use mathlib.Core.Path.{_≡_};
 ghost use mathlib.Core.Bool.{cond, _&&_};
 ghost use Prim.Native.Nat.{_+_, _*_, _≤_, _<_};
 ghost use lib.ListN.{length, drop};
-ghost use Rattle.text.specs.parts.Scan.{kindOf, letterField, firstDigit, nextDigit, grownOf, inHead, letterDue, afterLine, brokenOf, grow, commaOf, lineOf, endedOf, endedOut, afterByte, outAfterByte, keptOf, openingOf, startOf, scanned, valueOf, Within};
-ghost use Rattle.text.specs.parts.Reads.{wholeOf, answerOf, Reads};
+ghost use Rattle.text.specs.inner.Scan.{kindOf, letterField, firstDigit, nextDigit, grownOf, inHead, letterDue, afterLine, brokenOf, grow, commaOf, lineOf, endedOf, endedOut, afterByte, outAfterByte, keptOf, openingOf, startOf, scanned, valueOf, Within};
+ghost use Rattle.text.specs.inner.Reads.{wholeOf, answerOf, Reads};
 
 // The line that is being read.
 pub enum Form {

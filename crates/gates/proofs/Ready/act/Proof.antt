@@ -2,7 +2,7 @@
 use mathlib.Core.Path.{refl, ap}
 use Rattle.pauli.specs.Effects.{effectF, effectS, effectA, effectM, effectX, effectZ}
 use Rattle.gates.specs.Written.{takesTwo}
-use Rattle.gates.specs.View.{viewRow}
+use Rattle.gates.specs.inner.View.{viewRow}
 use Rattle.gates.proofs.Acts.{acts-one, acts-two}
 use Rattle.gates.proofs.Written.{legal-apart, legal-kind, no-kind}
 use borrow.Author.Needs.{needs}

@@ -3,7 +3,7 @@ use mathlib.Core.Path.{_≡_, _∙_, ap}
 use mathlib.Core.Bool.{true}
 use Prim.Native.Nat.{_-_, _<_}
 use Rattle.gates.specs.Written.{takesTwo}
-use Rattle.gates.specs.View.{viewRow}
+use Rattle.gates.specs.inner.View.{viewRow}
 use Rattle.gates.proofs.Acts.{of-kind}
 use Rattle.gates.proofs.Written.{legal-first, legal-second, legal-apart, legal-kind, no-kind}
 use native.Mathlib.Omega.{arith}

@@ -2,7 +2,7 @@
 use mathlib.Core.Path.{refl, ap}
 use borrow.Author.Tests.{ne-eqb}
 use Rattle.gates.specs.Written.{takesTwo}
-use Rattle.gates.specs.View.{viewRow}
+use Rattle.gates.specs.inner.View.{viewRow}
 use Rattle.gates.proofs.Acts.{other-is}
 use borrow.Author.Needs.{needs}
 use Rattle.gates.proofs.Ready.other.Statement.{statement}

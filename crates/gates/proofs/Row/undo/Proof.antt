@@ -3,7 +3,7 @@ use mathlib.Core.Path.{_∙_, ap}
 use Prim.Native.Nat.{ℕ, _+_, _-_}
 use Rattle.arith.specs.Units.{inverseOf}
 use Rattle.gates.specs.Written.{withPower}
-use Rattle.gates.specs.View.{viewRow}
+use Rattle.gates.specs.inner.View.{viewRow}
 use Rattle.gates.proofs.Written.{legal-unit, legal-highest, highest-small, undo-m, undo-other}
 use native.Mathlib.Omega.{arith}
 use borrow.Author.Needs.{needs}

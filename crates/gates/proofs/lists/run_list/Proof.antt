@@ -4,7 +4,7 @@ use mathlib.Core.List.{map}
 use Prim.Native.Nat.{ℕ, _-_, _/_, _≤_}
 use lib.ListN.{length}
 use Rattle.arith.specs.Bytes.{tab}
-use Rattle.pauli.specs.View.{view}
+use Rattle.pauli.specs.inner.View.{view}
 use Rattle.gates.specs.Row.{run}
 use Rattle.gates.specs.Written.{rowAt, meant}
 use Rattle.gates.proofs.Run.{run-start, run-next}

@@ -5,10 +5,10 @@ use lib.ListN.{length}
 use Rattle.gates.specs.Written.{rowAt}
 use Rattle.gates.proofs.Written.{all-legal-at}
 use mathlib.Core.Path.{_≡_, _∙_, ap}
-use Rattle.pauli.specs.View.{view}
+use Rattle.pauli.specs.inner.View.{view}
 use Rattle.gates.specs.Row.{apply}
 use Rattle.gates.specs.Written.{WrittenRow, legalRow, meant}
-use Rattle.gates.specs.View.{viewRow}
+use Rattle.gates.specs.inner.View.{viewRow}
 use Rattle.gates.specs.declared.Row.{Row}
 use Rattle.gates.proofs.Written.{legal-unit}
 use borrow.Author.Needs.{needs}

@@ -1,7 +1,7 @@
 -- `pauli::Pauli::effect_a` meets its contract: the effect on the numbers that it touches.
 use mathlib.Core.Path.{sym, ap, _∙_}
-use Rattle.pauli.specs.View.{view}
-use Rattle.pauli.specs.Touched.{placed}
+use Rattle.pauli.specs.inner.View.{view}
+use Rattle.pauli.specs.inner.Touched.{placed}
 use Rattle.pauli.proofs.Numbers.{view-has}
 use borrow.Author.Needs.{needs}
 use Rattle.pauli.proofs.Pauli.effect_a.Statement.{statement}

@@ -1,6 +1,6 @@
 -- `pauli::Pauli::effect_m` meets its contract: the effect on the numbers that it touches.
 use mathlib.Core.Path.{sym, _∙_}
-use Rattle.pauli.specs.View.{view}
+use Rattle.pauli.specs.inner.View.{view}
 use Rattle.pauli.proofs.Numbers.{view-has, placed-one}
 use borrow.Author.Needs.{needs}
 use Rattle.pauli.proofs.Pauli.effect_m.Statement.{statement}

@@ -1,7 +1,7 @@
 -- `pauli::Pauli::scaled` meets its contract. The invariant: the entries filled are the multiples (`Filled`).
 use mathlib.Core.Path.{_≡_, refl}
 use Prim.Native.Nat.{_*_, _-_, _%_, _≤_}
-use Rattle.pauli.specs.View.{at}
+use Rattle.pauli.specs.inner.View.{at}
 use Rattle.pauli.proofs.Entries.{Filled, filled-none, filled-more}
 use Rattle.pauli.proofs.Ranges.{pauli-path}
 use native.Mathlib.Omega.{arith}

@@ -3,7 +3,7 @@ use mathlib.Core.Path.{_≡_, _∙_}
 use Prim.Native.Nat.{_-_, _≤_}
 use Rattle.arith.specs.Refusals.{orElse, rangeOf}
 use Rattle.pauli.specs.Range.{boundsOf}
-use Rattle.pauli.specs.View.{at, entries}
+use Rattle.pauli.specs.inner.View.{at, entries}
 use Rattle.pauli.proofs.RangeChecks.{bounds-none, bounds-more}
 use native.Mathlib.Omega.{arith}
 use borrow.Author.Needs.{needs}

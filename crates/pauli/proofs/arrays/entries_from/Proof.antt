@@ -4,7 +4,7 @@ use Prim.Native.Nat.{_+_, _-_, _≤_}
 use lib.ListN.{length, getD, length-set}
 use Rattle.arith.specs.Bytes.{tab}
 use Rattle.arith.proofs.Bytes.{tab-none, tab-fewer}
-use Rattle.pauli.specs.View.{at, entries}
+use Rattle.pauli.specs.inner.View.{at, entries}
 use Rattle.pauli.proofs.Entries.{fill-more}
 use native.Mathlib.Omega.{arith}
 use borrow.Author.Needs.{needs}

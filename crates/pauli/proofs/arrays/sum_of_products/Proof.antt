@@ -2,7 +2,7 @@
 use mathlib.Core.Path.{_≡_, sym, ap₂, _∙_}
 use Prim.Native.Nat.{_+_, _-_, _*_, _≤_}
 use Rattle.pauli.specs.Pauli.{dot}
-use Rattle.pauli.specs.View.{entries}
+use Rattle.pauli.specs.inner.View.{entries}
 use Rattle.pauli.proofs.Entries.{dot-start, dot-more}
 use native.Mathlib.Omega.{arith}
 use borrow.Author.Needs.{needs}

@@ -5,7 +5,7 @@ use lib.ListN.{length}
 use lib.Seq.{sets}
 use Rattle.arith.specs.Bytes.{bytesOf}
 use Rattle.arith.proofs.Bytes.{write-none, write-next}
-use Rattle.pauli.specs.View.{entries}
+use Rattle.pauli.specs.inner.View.{entries}
 use native.Mathlib.Omega.{arith}
 use borrow.Author.Needs.{needs}
 use Rattle.pauli.proofs.bytes.write_entries.Statement.{statement}

@@ -7,7 +7,7 @@ use lib.Dec.{eqb}
 use lib.ListN.{getD, set}
 use lib.Seq.{set-getD, getD-set-other}
 use Rattle.arith.proofs.Cases.{eqb-case}
-use Rattle.pauli.specs.View.{entries}
+use Rattle.pauli.specs.inner.View.{entries}
 use Rattle.pauli.proofs.Entries.{entries-set}
 use native.Mathlib.Omega.{arith}
 use borrow.Author.Needs.{needs}

@@ -8,10 +8,10 @@ use Rattle.arith.proofs.Refusals.{good, stop-first, stop-second, orElse-none, o
 use Rattle.pauli.specs.Pauli.{Pauli}
 use Rattle.gates.specs.Written.{written, encodeRows}
 use Rattle.tableau.specs.Bytes.{decodeTableau}
-use Rattle.tableau.specs.Parts.{testsOf}
+use Rattle.tableau.specs.inner.Parts.{testsOf}
 use Rattle.tableau.proofs.Accepted.{sized-good}
 use Rattle.tableau.proofs.Views.{fresh-shaped}
-use Rattle.synthesis.specs.Reduce.{synthesised}
+use Rattle.synthesis.specs.inner.Reduce.{synthesised}
 use Rattle.synthesis.specs.Demand3.{synthesisRefusal}
 use Rattle.synthesis.proofs.Theorem.{synthesis}
 use Rattle.synthesis.proofs.Premises.{formed-given}

@@ -1,6 +1,6 @@
 -- `synthesis::calls::write_list` meets its contract: the reduction from the start, then the reversal.
-use Rattle.tableau.specs.View.{tableView}
-use Rattle.synthesis.specs.Reduce.{reduce}
+use Rattle.tableau.specs.inner.View.{tableView}
+use Rattle.synthesis.specs.inner.Reduce.{reduce}
 use Rattle.synthesis.proofs.Handed.{list-reduced}
 use Rattle.synthesis.proofs.Progress.{does-from, does-then}
 use native.Mathlib.Omega.{arith}

@@ -3,9 +3,9 @@ use mathlib.Core.Path.{_≡_, refl}
 use Prim.Native.Nat.{_+_, _-_, _≤_}
 use native.Mathlib.Numerals.{add-one}
 use lib.ListN.{length}
-use Rattle.tableau.specs.View.{tableView, Shaped}
-use Rattle.synthesis.specs.Turns.{turnOf}
-use Rattle.synthesis.specs.Progress.{Does}
+use Rattle.tableau.specs.inner.View.{tableView, Shaped}
+use Rattle.synthesis.specs.inner.Turns.{turnOf}
+use Rattle.synthesis.specs.inner.Progress.{Does}
 use Rattle.synthesis.proofs.Progress.{upTo, loop-none, loop-more}
 use native.Mathlib.Omega.{arith}
 use borrow.Author.Needs.{needs}

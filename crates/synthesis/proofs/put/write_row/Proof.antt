@@ -7,7 +7,7 @@ use lib.Seq.{sets}
 use Rattle.arith.specs.Bytes.{tab, bytesOf}
 use Rattle.arith.proofs.Bytes.{write-none, write-next}
 use Rattle.gates.specs.Written.{WrittenRow, rowNumbers, listNumbers, encodeRows}
-use Rattle.gates.specs.View.{viewRow}
+use Rattle.gates.specs.inner.View.{viewRow}
 use native.Mathlib.Omega.{arith}
 use borrow.Author.Needs.{needs}
 use Rattle.synthesis.proofs.put.write_row.Statement.{statement}

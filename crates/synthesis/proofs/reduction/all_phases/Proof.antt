@@ -2,13 +2,13 @@
 use mathlib.Core.Path.{_≡_, refl}
 use Prim.Native.Nat.{_-_, _*_, _≤_}
 use lib.ListN.{length}
-use Rattle.synthesis.specs.Progress.{Does}
+use Rattle.synthesis.specs.inner.Progress.{Does}
 use Rattle.synthesis.proofs.Progress.{upTo, loop-none, loop-more, does-as}
 use Rattle.synthesis.proofs.Stages.{up-all}
 use Rattle.tableau.specs.Tableau.{upFrom}
-use Rattle.synthesis.specs.Reduce.{each, phases}
+use Rattle.synthesis.specs.inner.Reduce.{each, phases}
 use native.Mathlib.Omega.{arith}
-use Rattle.tableau.specs.View.{tableView}
+use Rattle.tableau.specs.inner.View.{tableView}
 use borrow.Author.Needs.{needs}
 use Rattle.synthesis.proofs.reduction.all_phases.Statement.{statement}
 use Rattle.synthesis.proofs.reduction.all_phases.Tie as tie

@@ -3,12 +3,12 @@ use Rattle.synthesis.proofs.Stages.{stageRows, stage-start, stage-part,
 use mathlib.Core.Path.{_≡_, refl}
 use Prim.Native.Nat.{_+_, _-_, _≤_}
 use lib.ListN.{length}
-use Rattle.synthesis.specs.Progress.{Does}
+use Rattle.synthesis.specs.inner.Progress.{Does}
 use Rattle.synthesis.proofs.Progress.{upTo, loop-none, loop-more, does-as, does-from}
 use Rattle.tableau.specs.Tableau.{upFrom}
-use Rattle.synthesis.specs.Reduce.{each, stage}
+use Rattle.synthesis.specs.inner.Reduce.{each, stage}
 use native.Mathlib.Omega.{arith}
-use Rattle.tableau.specs.View.{tableView}
+use Rattle.tableau.specs.inner.View.{tableView}
 use borrow.Author.Needs.{needs}
 use Rattle.synthesis.proofs.reduction.all_stages.Statement.{statement}
 use Rattle.synthesis.proofs.reduction.all_stages.Tie as tie

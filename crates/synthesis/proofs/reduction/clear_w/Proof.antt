@@ -3,7 +3,7 @@ use mathlib.Core.Path.{sym, _∙_}
 use mathlib.Core.Bool.{cond}
 use native.Mathlib.Numerals.{add-one}
 use Rattle.tableau.specs.Tableau.{column}
-use Rattle.synthesis.specs.Reduce.{each, later, noV, straighten, clearPartnerW, partnerStraightened}
+use Rattle.synthesis.specs.inner.Reduce.{each, later, noV, straighten, clearPartnerW, partnerStraightened}
 use Rattle.synthesis.proofs.Progress.{does-more, does-test}
 use Prim.Native.Nat.{_+_}
 use native.Mathlib.Omega.{arith}

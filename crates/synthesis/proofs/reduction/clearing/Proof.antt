@@ -1,7 +1,7 @@
 -- `synthesis::reduction::clearing` meets its contract: the quotient is that of the entries.
 use mathlib.Core.Path.{ap, ap₂, _∙_}
 use Rattle.arith.specs.Units.{quotient}
-use Rattle.synthesis.specs.Reduce.{minus}
+use Rattle.synthesis.specs.inner.Reduce.{minus}
 use native.Mathlib.Omega.{arith}
 use borrow.Author.Needs.{needs}
 use Rattle.synthesis.proofs.reduction.clearing.Statement.{statement}

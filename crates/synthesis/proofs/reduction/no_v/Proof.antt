@@ -7,8 +7,8 @@ use native.Mathlib.Numerals.{add-one}
 use Rattle.arith.proofs.Cases.{eqb-case}
 use Rattle.pauli.specs.Pauli.{Pauli}
 use Rattle.tableau.specs.Tableau.{column, upFrom}
-use Rattle.tableau.specs.View.{tableView}
-use Rattle.synthesis.specs.Reduce.{noV}
+use Rattle.tableau.specs.inner.View.{tableView}
+use Rattle.synthesis.specs.inner.Reduce.{noV}
 use Rattle.synthesis.proofs.Entries.{vOf}
 use native.Mathlib.Omega.{arith}
 use borrow.Author.Needs.{needs}

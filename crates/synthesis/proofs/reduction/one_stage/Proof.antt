@@ -1,6 +1,6 @@
 -- `synthesis::reduction::one_stage` meets its contract: its steps in turn, in place.
 use Rattle.tableau.proofs.Shapes.{shaped}
-use Rattle.synthesis.specs.Reduce.{stage}
+use Rattle.synthesis.specs.inner.Reduce.{stage}
 use Rattle.synthesis.proofs.Progress.{does-more, does-then}
 use native.Mathlib.Omega.{arith}
 use borrow.Author.Needs.{needs}

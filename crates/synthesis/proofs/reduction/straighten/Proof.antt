@@ -7,7 +7,7 @@ use lib.ListN.{getD}
 use Rattle.arith.specs.Units.{divides}
 use Rattle.arith.proofs.Quotient.{quotient-tells, quotient-tells-none}
 use Rattle.tableau.specs.Tableau.{column}
-use Rattle.synthesis.specs.Reduce.{putS, gatherW, exchange, clearing, clearW, straighten}
+use Rattle.synthesis.specs.inner.Reduce.{putS, gatherW, exchange, clearing, clearW, straighten}
 use Rattle.synthesis.proofs.Progress.{does-more, does-then, does-test, does-power}
 use native.Mathlib.Omega.{arith}
 use borrow.Author.Needs.{needs}

@@ -6,7 +6,7 @@ use lib.ListN.{getD}
 use Rattle.arith.specs.Units.{IsUnit}
 use Rattle.pauli.specs.Pauli.{Pauli}
 use Rattle.tableau.specs.Tableau.{column}
-use Rattle.synthesis.specs.Reduce.{gathered, firstColumn}
+use Rattle.synthesis.specs.inner.Reduce.{gathered, firstColumn}
 use Rattle.synthesis.proofs.Progress.{does-from, does-more, does-then}
 use native.Mathlib.Omega.{arith}
 use borrow.Author.Needs.{needs}

@@ -4,7 +4,7 @@ use mathlib.Core.Bool.{cond}
 use Prim.Native.Nat.{_+_}
 use native.Mathlib.Nat.{le-refl}
 use Rattle.tableau.specs.Tableau.{column}
-use Rattle.synthesis.specs.Reduce.{onward, noV, partnerTurned, secondColumn}
+use Rattle.synthesis.specs.inner.Reduce.{onward, noV, partnerTurned, secondColumn}
 use Rattle.synthesis.proofs.Progress.{does-nothing, does-more, does-then, does-test}
 use native.Mathlib.Omega.{arith}
 use borrow.Author.Needs.{needs}

@@ -3,7 +3,7 @@ use mathlib.Core.Path.{sym, ap, _∙_}
 use Rattle.arith.proofs.Units.{unit-pos}
 use Rattle.gates.specs.Row.{M}
 use Rattle.gates.specs.Written.{WrittenRow, onOne}
-use Rattle.synthesis.specs.Reduce.{put}
+use Rattle.synthesis.specs.inner.Reduce.{put}
 use Rattle.synthesis.proofs.Progress.{says-none, says-row}
 use native.Mathlib.Omega.{arith}
 use borrow.Author.Needs.{needs}

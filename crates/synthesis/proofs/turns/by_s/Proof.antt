@@ -7,8 +7,8 @@ use native.Mathlib.Nat.{mod-lt}
 use Rattle.pauli.specs.Pauli.{Pauli}
 use Rattle.gates.specs.Row.{S}
 use Rattle.gates.specs.Written.{WrittenRow, onOne}
-use Rattle.synthesis.specs.Reduce.{put, nearPower, putS}
-use Rattle.synthesis.specs.Progress.{Says}
+use Rattle.synthesis.specs.inner.Reduce.{put, nearPower, putS}
+use Rattle.synthesis.specs.inner.Progress.{Says}
 use Rattle.synthesis.proofs.Steps.{near-low, near-high, near-below, near-above}
 use Rattle.synthesis.proofs.Progress.{says-none, says-row}
 use native.Mathlib.Omega.{arith}

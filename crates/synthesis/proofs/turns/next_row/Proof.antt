@@ -13,7 +13,7 @@ use Rattle.arith.proofs.Units.{least-below, inverse-below, inverse-unit}
 use Rattle.pauli.specs.Pauli.{Pauli}
 use Rattle.gates.specs.Row.{F}
 use Rattle.tableau.specs.Tableau.{column}
-use Rattle.synthesis.specs.Reduce.{put, minus, putS, putA, putM, putX, putZ}
+use Rattle.synthesis.specs.inner.Reduce.{put, minus, putS, putA, putM, putX, putZ}
 use Rattle.synthesis.proofs.Progress.{says-power, says-a, says-x, says-z, says-f}
 use native.Mathlib.Omega.{arith}
 use borrow.Author.Needs.{needs}

@@ -1,7 +1,7 @@
 -- `tableau::calls::both_sound` meets its contract: `good` past a check, `stop` at one. p1, p2, ..: the places past the first check, the second, and so on.
 use mathlib.Core.Path.{_≡_}
 use Rattle.arith.specs.Refusals.{pairingOf, parityOf}
-use Rattle.tableau.specs.View.{tableView}
+use Rattle.tableau.specs.inner.View.{tableView}
 use Rattle.tableau.specs.Soundness.{pairingHolds, parityHolds}
 use Rattle.arith.proofs.Refusals.{good, stop}
 use borrow.Author.Needs.{needs}

@@ -7,7 +7,7 @@ use Rattle.arith.proofs.Refusals.{good, stop-last, stop-written, written, orEls
 use Rattle.pauli.specs.Pauli.{Pauli}
 use Rattle.tableau.specs.Tableau.{compose}
 use Rattle.tableau.specs.Bytes.{decodeTableau, encodeTableau}
-use Rattle.tableau.specs.Parts.{composeTests}
+use Rattle.tableau.specs.inner.Parts.{composeTests}
 use Rattle.tableau.proofs.Bytes.{decode-formed}
 use Rattle.tableau.proofs.Views.{fresh-shaped}
 use borrow.Author.Needs.{needs}

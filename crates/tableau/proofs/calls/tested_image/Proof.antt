@@ -6,7 +6,7 @@ use Rattle.pauli.specs.Bytes.{decode}
 use Rattle.pauli.proofs.Encoding.{write-answer}
 use Rattle.tableau.specs.Tableau.{image}
 use Rattle.tableau.specs.Bytes.{decodeTableau}
-use Rattle.tableau.specs.Parts.{imageTests}
+use Rattle.tableau.specs.inner.Parts.{imageTests}
 use Rattle.tableau.proofs.Bytes.{decode-formed}
 use Rattle.tableau.proofs.Views.{fresh-shaped}
 use native.Mathlib.Omega.{arith}

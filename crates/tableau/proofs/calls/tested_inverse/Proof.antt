@@ -7,7 +7,7 @@ use Rattle.arith.proofs.Refusals.{good, stop-last, stop-written, written, orEls
 use Rattle.pauli.specs.Pauli.{Pauli}
 use Rattle.tableau.specs.Inverse.{inverse}
 use Rattle.tableau.specs.Bytes.{decodeTableau, encodeTableau}
-use Rattle.tableau.specs.Parts.{testsOf}
+use Rattle.tableau.specs.inner.Parts.{testsOf}
 use Rattle.tableau.proofs.Bytes.{decode-formed}
 use Rattle.tableau.proofs.Tests.{sound-good}
 use Rattle.tableau.proofs.Views.{fresh-shaped}

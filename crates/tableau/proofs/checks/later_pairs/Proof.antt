@@ -4,7 +4,7 @@ use mathlib.Core.Path.{_≡_, refl, sym, _∙_}
 use Prim.Native.Nat.{_+_, _*_, _-_, _≤_}
 use native.Mathlib.Numerals.{add-one}
 use Rattle.tableau.specs.Tableau.{upFrom}
-use Rattle.tableau.specs.View.{tableView}
+use Rattle.tableau.specs.inner.View.{tableView}
 use Rattle.tableau.specs.Soundness.{all, pairPasses, laterPass}
 use Rattle.tableau.proofs.Loops.{all-pass, all-fail, all-end, pairing-refused, pairing-passed}
 use native.Mathlib.Omega.{arith}

@@ -4,7 +4,7 @@ use Prim.Native.Nat.{_*_, _-_, _≤_}
 use Rattle.arith.proofs.Refusals.{good, pairing-good}
 use Rattle.arith.specs.Refusals.{pairingOf}
 use Rattle.tableau.specs.Tableau.{upFrom}
-use Rattle.tableau.specs.View.{tableView}
+use Rattle.tableau.specs.inner.View.{tableView}
 use Rattle.tableau.specs.Soundness.{all, laterPass, pairingHolds}
 use Rattle.tableau.proofs.Loops.{all-start, all-pass, all-fail, all-end, pairing-failed, pairing-passed}
 use native.Mathlib.Omega.{arith}

@@ -5,7 +5,7 @@ use borrow.Author.Tests.{eq-eqb, ne-eqb}
 use Rattle.pauli.specs.Pauli.{parity}
 use Rattle.tableau.proofs.Loops.{all-start, all-pass, all-fail, all-end, parity-refused, parity-passed}
 use Rattle.tableau.specs.Tableau.{upFrom}
-use Rattle.tableau.specs.View.{tableView}
+use Rattle.tableau.specs.inner.View.{tableView}
 use Rattle.tableau.specs.Soundness.{all, evenPasses, parityHolds}
 use native.Mathlib.Omega.{arith}
 use borrow.Author.Needs.{needs}

@@ -4,7 +4,7 @@ use Prim.Native.Nat.{_-_, _≤_}
 use lib.ListN.{drop}
 use Rattle.arith.proofs.Refusals.{good, stop, passes}
 use Rattle.tableau.specs.Range.{tableauRangeOf}
-use Rattle.tableau.specs.View.{tableView}
+use Rattle.tableau.specs.inner.View.{tableView}
 use Rattle.tableau.proofs.Loops.{ranges-step, ranges-end}
 use Rattle.tableau.proofs.Views.{table-length}
 use native.Mathlib.Omega.{arith}

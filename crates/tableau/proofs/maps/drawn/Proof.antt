@@ -4,11 +4,11 @@ use mathlib.Core.List.{List}
 use Prim.Native.Nat.{ℕ, _+_, _-_, _%_, _≤_}
 use Rattle.arith.specs.Residues.{neg}
 use Rattle.pauli.specs.Pauli.{Pauli, comm}
-use Rattle.pauli.specs.View.{view}
+use Rattle.pauli.specs.inner.View.{view}
 use Rattle.pauli.proofs.Entries.{Filled, filled-none, filled-more}
 use Rattle.pauli.proofs.Ranges.{pauli-path}
 use Rattle.tableau.specs.Tableau.{column}
-use Rattle.tableau.specs.View.{tableView}
+use Rattle.tableau.specs.inner.View.{tableView}
 use Rattle.tableau.proofs.Loops.{table}
 use native.Mathlib.Omega.{arith}
 use borrow.Author.Needs.{needs}

@@ -1,6 +1,6 @@
 -- `tableau::maps::exponent` meets its contract.
 use mathlib.Core.Path.{_∙_}
-use Rattle.pauli.specs.View.{at}
+use Rattle.pauli.specs.inner.View.{at}
 use Rattle.tableau.proofs.Loops.{power-v, power-w}
 use native.Mathlib.Omega.{arith}
 use borrow.Author.Needs.{needs}

@@ -5,9 +5,9 @@ use Prim.Native.Nat.{_-_, _≤_}
 use lib.ListN.{drop, length-append}
 use Rattle.arith.proofs.Bytes.{tab-length}
 use Rattle.pauli.specs.Pauli.{Pauli, product, power}
-use Rattle.pauli.specs.View.{at, view, entries}
+use Rattle.pauli.specs.inner.View.{at, view, entries}
 use Rattle.tableau.specs.Tableau.{multiplied, image}
-use Rattle.tableau.specs.View.{tableView}
+use Rattle.tableau.specs.inner.View.{tableView}
 use Rattle.tableau.proofs.Views.{table-length}
 use Rattle.tableau.proofs.Columns.{column-range}
 use Rattle.tableau.proofs.Loops.{multiplied-next, multiplied-end}

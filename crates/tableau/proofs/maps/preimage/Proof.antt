@@ -5,7 +5,7 @@ use Rattle.arith.specs.Residues.{neg}
 use Rattle.pauli.specs.Pauli.{Pauli}
 use Rattle.pauli.proofs.Ranges.{pauli-path}
 use Rattle.tableau.specs.Tableau.{image}
-use Rattle.tableau.specs.View.{tableView}
+use Rattle.tableau.specs.inner.View.{tableView}
 use borrow.Author.Needs.{needs}
 use Rattle.tableau.proofs.maps.preimage.Statement.{statement}
 use Rattle.tableau.proofs.maps.preimage.Tie as tie

@@ -5,7 +5,7 @@ use mathlib.Core.List.{List}
 use Prim.Native.Nat.{ℕ, _-_, _≤_, _<_}
 use Rattle.pauli.specs.Pauli.{Pauli}
 use Rattle.tableau.specs.Tableau.{column, image}
-use Rattle.tableau.specs.View.{tableView}
+use Rattle.tableau.specs.inner.View.{tableView}
 use Rattle.tableau.proofs.Columns.{column-range}
 use Rattle.tableau.proofs.Image.{image-range}
 use Rattle.tableau.proofs.Loops.{compose-table}

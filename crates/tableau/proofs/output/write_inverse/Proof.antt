@@ -6,7 +6,7 @@ use Prim.Native.Nat.{ℕ, _-_, _≤_, _<_}
 use Rattle.pauli.specs.Pauli.{Pauli, unit}
 use Rattle.pauli.proofs.Units.{unit-range}
 use Rattle.tableau.specs.Inverse.{preimage}
-use Rattle.tableau.specs.View.{tableView}
+use Rattle.tableau.specs.inner.View.{tableView}
 use Rattle.tableau.proofs.Inverse.{preimage-range}
 use Rattle.tableau.proofs.Loops.{inverse-table}
 use Rattle.tableau.proofs.Bytes.{ColumnsWritten, columns-none, columns-next, columns-all, numbers-length}

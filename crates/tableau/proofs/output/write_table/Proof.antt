@@ -4,7 +4,7 @@ use mathlib.Core.List.{List, []}
 use Prim.Native.Nat.{ℕ, _-_, _≤_}
 use lib.ListN.{getD}
 use Rattle.pauli.specs.Pauli.{Pauli}
-use Rattle.tableau.specs.View.{columnView}
+use Rattle.tableau.specs.inner.View.{columnView}
 use Rattle.tableau.proofs.Bytes.{ColumnsWritten, columns-none, columns-next, columns-all}
 use Rattle.tableau.proofs.Views.{view-column, view-table, view-length}
 use native.Mathlib.Omega.{arith}

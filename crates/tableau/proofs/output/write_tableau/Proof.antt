@@ -10,7 +10,7 @@ use Rattle.gates.specs.Written.{WrittenRow, meant, rowAt, legalRow}
 use Rattle.gates.proofs.Written.{all-legal-at}
 use Rattle.tableau.specs.Tableau.{units}
 use Rattle.tableau.specs.Bytes.{encodeTableau}
-use Rattle.tableau.specs.View.{tableView, Shaped}
+use Rattle.tableau.specs.inner.View.{tableView, Shaped}
 use Rattle.tableau.proofs.Run.{rows-none, rows-next}
 use native.Mathlib.Omega.{arith}
 use borrow.Author.Needs.{needs}

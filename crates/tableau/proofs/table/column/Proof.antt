@@ -1,7 +1,7 @@
 -- `tableau::table::column` meets its contract: the column as it stands in the table, part by part.
 use mathlib.Core.Path.{sym, _∙_}
 use Rattle.pauli.proofs.Ranges.{pauli-path}
-use Rattle.tableau.specs.View.{columnView}
+use Rattle.tableau.specs.inner.View.{columnView}
 use Rattle.tableau.proofs.Views.{view-column}
 use borrow.Author.Needs.{needs}
 use Rattle.tableau.proofs.table.column.Statement.{statement}

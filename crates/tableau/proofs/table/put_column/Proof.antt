@@ -2,11 +2,11 @@
 use mathlib.Core.Path.{_≡_, sym, ap, subst, _∙_}
 use mathlib.Core.Bool.{true}
 use Prim.Native.Nat.{ℕ, _-_, _<_, _≤_}
-use Rattle.pauli.specs.Touched.{viewTouched, touched, still, replaced}
-use Rattle.gates.specs.View.{viewRow}
+use Rattle.pauli.specs.inner.Touched.{viewTouched, touched, still, replaced}
+use Rattle.gates.specs.inner.View.{viewRow}
 use Rattle.gates.proofs.Written.{legal-first, legal-second}
 use Rattle.gates.proofs.Acts.{legal-other, acts-not}
-use Rattle.tableau.specs.View.{columnView}
+use Rattle.tableau.specs.inner.View.{columnView}
 use Rattle.tableau.proofs.Views.{column-has}
 use native.Mathlib.Omega.{arith}
 use borrow.Author.Needs.{needs}

@@ -6,10 +6,10 @@ use lib.ListN.{getD}
 use mathlib.Core.Bool.{true}
 use Rattle.gates.specs.Row.{apply}
 use Rattle.gates.specs.Written.{meant, legalRow}
-use Rattle.gates.specs.View.{viewRow}
+use Rattle.gates.specs.inner.View.{viewRow}
 use Rattle.gates.specs.declared.Row.{Row}
 use Rattle.gates.proofs.Written.{legal-unit}
-use Rattle.tableau.specs.View.{columnView, tableView}
+use Rattle.tableau.specs.inner.View.{columnView, tableView}
 use Rattle.tableau.proofs.Views.{Changed, changed-none, changed-more, view-map}
 use native.Mathlib.Omega.{arith}
 use borrow.Author.Needs.{needs}

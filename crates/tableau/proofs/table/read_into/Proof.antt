@@ -3,7 +3,7 @@ use mathlib.Core.Path.{_≡_, refl, sym, _∙_}
 use mathlib.Core.List.{List}
 use Prim.Native.Nat.{ℕ, _*_, _-_, _≤_}
 use Rattle.tableau.specs.Bytes.{columnAt}
-use Rattle.tableau.specs.View.{columnView}
+use Rattle.tableau.specs.inner.View.{columnView}
 use Rattle.tableau.proofs.Bytes.{column-inside, column-small, decode-table}
 use Rattle.tableau.proofs.Views.{Changed, changed-none, changed-more, view-table}
 use native.Mathlib.Omega.{arith}

@@ -1,8 +1,8 @@
 -- `tableau::table::replace` meets its contract: five stores.
 use mathlib.Core.Path.{ap, _∙_}
-use Rattle.pauli.specs.Touched.{Touched, replaced}
+use Rattle.pauli.specs.inner.Touched.{Touched, replaced}
 use Rattle.pauli.proofs.Numbers.{touched-path}
-use Rattle.tableau.specs.View.{columnView}
+use Rattle.tableau.specs.inner.View.{columnView}
 use Rattle.tableau.proofs.Views.{column-replaced, stored-length}
 use borrow.Author.Needs.{needs}
 use Rattle.tableau.proofs.table.replace.Statement.{statement}

@@ -3,7 +3,7 @@ use mathlib.Core.Path.{_≡_, refl, sym, ap, _∙_}
 use mathlib.Core.List.{List}
 use Prim.Native.Nat.{ℕ, _*_, _-_, _≤_}
 use Rattle.pauli.specs.Pauli.{unit}
-use Rattle.tableau.specs.View.{columnView}
+use Rattle.tableau.specs.inner.View.{columnView}
 use Rattle.tableau.proofs.Loops.{table}
 use Rattle.tableau.proofs.Views.{Changed, changed-none, changed-more, view-table, fresh-shaped, fresh-column}
 use native.Mathlib.Omega.{arith}

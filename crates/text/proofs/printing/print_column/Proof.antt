@@ -5,7 +5,7 @@ use native.Mathlib.Omega.{arith}
 use lib.ListN.{length}
 use borrow.Author.Needs.{needs}
 use Rattle.arith.specs.Bytes.{numbersAt}
-use Rattle.text.specs.parts.Prints.{PutsText}
+use Rattle.text.specs.inner.Prints.{PutsText}
 use Rattle.text.proofs.Sound.{commas}
 use Rattle.text.proofs.Writing.{commas-none, commas-more, commas-end}
 use Rattle.text.proofs.printing.print_column.Statement.{statement}

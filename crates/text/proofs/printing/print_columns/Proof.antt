@@ -6,7 +6,7 @@ use native.Mathlib.Omega.{arith}
 use lib.ListN.{length}
 use borrow.Author.Needs.{needs}
 use Rattle.text.specs.Format.{concatenated, columnLine}
-use Rattle.text.specs.parts.Prints.{PutsText, columnsAt}
+use Rattle.text.specs.inner.Prints.{PutsText, columnsAt}
 use Rattle.text.proofs.Writing.{lines-none, lines-put}
 use Rattle.text.proofs.printing.print_columns.Statement.{statement}
 use Rattle.text.proofs.printing.print_columns.Tie as tie

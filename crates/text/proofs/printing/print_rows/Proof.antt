@@ -7,7 +7,7 @@ use borrow.Author.Needs.{needs}
 use Rattle.arith.specs.Bytes.{tab}
 use Rattle.gates.specs.Written.{rowAt}
 use Rattle.text.specs.Format.{concatenated, rowLine}
-use Rattle.text.specs.parts.Prints.{PutsText}
+use Rattle.text.specs.inner.Prints.{PutsText}
 use Rattle.text.proofs.Writing.{lines-none, lines-put}
 use Rattle.text.proofs.printing.print_rows.Statement.{statement}
 use Rattle.text.proofs.printing.print_rows.Tie as tie

@@ -2,7 +2,7 @@
 use mathlib.Core.Path.{refl}
 use borrow.Author.Tests.{eq-eqb, ne-eqb}
 use borrow.Author.Needs.{needs}
-use Rattle.text.specs.parts.Scan.{outAfterByte, afterByte}
+use Rattle.text.specs.inner.Scan.{outAfterByte, afterByte}
 use Rattle.text.proofs.reading.after_byte.Statement.{statement}
 use Rattle.text.proofs.reading.after_byte.Tie as tie
 

@@ -2,7 +2,7 @@
 use mathlib.Core.Path.{sym, _∙_, ap}
 use borrow.Author.Needs.{needs}
 use Rattle.text.specs.declared.reading.Field.{Field}
-use Rattle.text.specs.parts.Reads.{answerOf}
+use Rattle.text.specs.inner.Reads.{answerOf}
 use Rattle.text.proofs.reading.answer.Statement.{statement}
 use Rattle.text.proofs.reading.answer.Tie as tie
 

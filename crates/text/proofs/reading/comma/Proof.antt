@@ -1,6 +1,6 @@
 -- `text::reading::comma` meets its contract. In the header, and after it.
 use borrow.Author.Needs.{needs}
-use Rattle.text.specs.parts.Scan.{commaOf}
+use Rattle.text.specs.inner.Scan.{commaOf}
 use Rattle.text.proofs.reading.comma.Statement.{statement}
 use Rattle.text.proofs.reading.comma.Tie as tie
 

@@ -3,7 +3,7 @@ use mathlib.Core.Path.{_≡_, refl, sym, _∙_}
 use native.Mathlib.Omega.{arith}
 use borrow.Author.Tests.{eq-eqb, ne-eqb}
 use borrow.Author.Needs.{needs}
-use Rattle.text.specs.parts.Scan.{used}
+use Rattle.text.specs.inner.Scan.{used}
 use Rattle.text.proofs.AfterByte.{used-one}
 use Rattle.text.proofs.reading.ended.Statement.{statement}
 use Rattle.text.proofs.reading.ended.Tie as tie

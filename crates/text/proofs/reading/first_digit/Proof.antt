@@ -1,7 +1,7 @@
 -- `text::reading::first_digit` meets its contract. By the tests on the byte, in their order.
 use borrow.Author.Tests.{eq-eqb, ne-eqb, lt-ltb, le-ltb}
 use borrow.Author.Needs.{needs}
-use Rattle.text.specs.parts.Scan.{firstDigit}
+use Rattle.text.specs.inner.Scan.{firstDigit}
 use Rattle.text.proofs.reading.first_digit.Statement.{statement}
 use Rattle.text.proofs.reading.first_digit.Tie as tie
 

@@ -1,6 +1,6 @@
 -- `text::reading::keep` meets its contract. In the header nothing is written.
 use borrow.Author.Needs.{needs}
-use Rattle.text.specs.parts.Scan.{keptOf}
+use Rattle.text.specs.inner.Scan.{keptOf}
 use Rattle.text.proofs.reading.keep.Statement.{statement}
 use Rattle.text.proofs.reading.keep.Tie as tie
 

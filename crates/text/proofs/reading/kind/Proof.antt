@@ -1,6 +1,6 @@
 -- `text::reading::kind` meets its contract. The letter is one of the six, or none of them.
 use borrow.Author.Tests.{ne-eqb}
-use Rattle.text.specs.parts.Scan.{kindOf}
+use Rattle.text.specs.inner.Scan.{kindOf}
 use Rattle.text.proofs.reading.kind.Statement.{statement}
 use Rattle.text.proofs.reading.kind.Tie as tie
 

@@ -1,7 +1,7 @@
 -- `text::reading::letter_field` meets its contract. By the kind that `kind` finds.
 use borrow.Author.Tests.{eq-eqb, ne-eqb}
 use borrow.Author.Needs.{needs}
-use Rattle.text.specs.parts.Scan.{letterField}
+use Rattle.text.specs.inner.Scan.{letterField}
 use Rattle.text.proofs.reading.letter_field.Statement.{statement}
 use Rattle.text.proofs.reading.letter_field.Tie as tie
 

@@ -1,6 +1,6 @@
 -- `text::reading::line_feed` meets its contract. In the header, and after it.
 use borrow.Author.Needs.{needs}
-use Rattle.text.specs.parts.Scan.{lineOf}
+use Rattle.text.specs.inner.Scan.{lineOf}
 use Rattle.text.proofs.reading.line_feed.Statement.{statement}
 use Rattle.text.proofs.reading.line_feed.Tie as tie
 

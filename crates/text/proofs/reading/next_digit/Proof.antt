@@ -1,7 +1,7 @@
 -- `text::reading::next_digit` meets its contract. By the tests on the byte and the number, in their order.
 use borrow.Author.Tests.{lt-ltb, le-ltb}
 use borrow.Author.Needs.{needs}
-use Rattle.text.specs.parts.Scan.{nextDigit}
+use Rattle.text.specs.inner.Scan.{nextDigit}
 use Rattle.text.proofs.reading.next_digit.Statement.{statement}
 use Rattle.text.proofs.reading.next_digit.Tie as tie
 

@@ -1,6 +1,6 @@
 -- `text::reading::opening` meets its contract. By the second byte, then by the first.
 use borrow.Author.Tests.{eq-eqb, ne-eqb}
-use Rattle.text.specs.parts.Scan.{openingOf}
+use Rattle.text.specs.inner.Scan.{openingOf}
 use Rattle.text.proofs.reading.opening.Statement.{statement}
 use Rattle.text.proofs.reading.opening.Tie as tie
 

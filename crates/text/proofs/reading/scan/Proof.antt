@@ -5,7 +5,7 @@ use Prim.Native.Nat.{ℕ, _+_, _≤_, _-_}
 use native.Mathlib.Omega.{arith}
 use lib.ListN.{drop-of-length-le, length, drop}
 use borrow.Author.Needs.{needs}
-use Rattle.text.specs.parts.Scan.{Held, Within, scanned}
+use Rattle.text.specs.inner.Scan.{Held, Within, scanned}
 use Rattle.text.specs.declared.reading.State.{State}
 use Rattle.text.proofs.AfterByte.{scanned-none, within-byte, scanned-more}
 use Rattle.text.proofs.reading.scan.Statement.{statement}

@@ -2,7 +2,7 @@
 use mathlib.Core.Path.{_≡_}
 use Prim.Native.Nat.{_-_, _≤_}
 use native.Mathlib.Numerals.{add-one}
-use Rattle.pauli.specs.Touched.{viewTouched, OnOne}
+use Rattle.pauli.specs.inner.Touched.{viewTouched, OnOne}
 use Rattle.pauli.specs.Effects.{effectF}
 use Rattle.pauli.proofs.Numbers.{puts-none, puts-next}
 use native.Mathlib.Omega.{arith}

@@ -1,5 +1,8 @@
--- `pauli::touched::Touched::effect_x` meets its contract: the phase in reduced steps.
+-- `pauli::touched::Touched::effect_x` meets its contract: the phase in reduced steps. The call that lowers the phase is not named here, so that code with another
+-- sign fails by what it promises.
 use mathlib.Core.Path.{_∙_}
+use Prim.Native.Nat.{_+_, _*_, _%_}
+use Rattle.arith.specs.Residues.{neg}
 use Rattle.pauli.proofs.Change.{x-phase}
 use Rattle.pauli.proofs.Numbers.{puts-x}
 use borrow.Author.Needs.{needs}
@@ -11,7 +14,8 @@ returns c i p a e =
     let s = c .before .before .before .before .before .before .before in
     let d = s .args .d in
     let k = s .args .k .0 in
-    rw (c .on-one .ensures) (puts-x d k a e (c .before .minus .ensures ∙ rw (c .before .before .doubled .ensures, c .before .before .before .scaled .ensures) (x-phase d k (s .pre .d-low) _ _ .same)))
+    let lowered = (s .args .self .phase .0 + neg (2 * d) (c .before .before .doubled .result .0)) % (2 * d) in
+    rw (c .on-one .ensures) (puts-x d k a e (_∙_ {b = lowered} (search needs) (rw (c .before .before .doubled .ensures, c .before .before .before .scaled .ensures) (x-phase d k (s .pre .d-low) _ _ .same))))
 
 pub effect-x-spec : {M : Type 1} → statement M
 effect-x-spec = tie.close (tie.spec

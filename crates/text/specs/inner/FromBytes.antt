@@ -9,7 +9,7 @@ use Rattle.arith.specs.Bytes.{bytesOf}
 use Rattle.gates.specs.Written.{WrittenRow, encodeRows}
 use Rattle.text.specs.Format.{tableauFile, listFile}
 use Rattle.text.specs.Convert.{fullColumns, PrintsFor}
-use Rattle.text.specs.parts.Reads.{fileNumbers}
+use Rattle.text.specs.inner.Reads.{fileNumbers}
 use Rattle.text.specs.declared.Outcome.{Outcome}
 use Rattle.text.specs.declared.Outcome.the-variants.{Done, Refused}
 

@@ -4,7 +4,7 @@ use mathlib.Core.Bool.{cond}
 use Prim.Native.Nat.{ℕ, _-_}
 use Rattle.arith.specs.Units.{inverseOf}
 use Rattle.pauli.specs.Pauli.{Pauli}
-use Rattle.pauli.specs.Touched.{Touched, touched, replaced, Has}
+use Rattle.pauli.specs.inner.Touched.{Touched, touched, replaced, Has}
 use Rattle.gates.specs.Row.{apply}
 use Rattle.gates.specs.Written.{WrittenRow, takesTwo, meant}
 use Rattle.gates.specs.declared.Row.{Row as Code}

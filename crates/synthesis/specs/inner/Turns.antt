@@ -6,7 +6,7 @@ use Rattle.arith.specs.Units.{IsUnit}
 use Rattle.pauli.specs.Pauli.{Pauli}
 use Rattle.gates.specs.Row.{F}
 use Rattle.tableau.specs.Tableau.{column}
-use Rattle.synthesis.specs.Reduce.{State, minus, put, putS, putX, putZ, gatherW, exchange, gather, scale, clearV, clearPartnerW, clearPartnerV, shearPartner}
+use Rattle.synthesis.specs.inner.Reduce.{State, minus, put, putS, putX, putZ, gatherW, exchange, gather, scale, clearV, clearPartnerW, clearPartnerV, shearPartner}
 use Rattle.synthesis.specs.declared.turns.Turn.{Turn}
 use Rattle.synthesis.specs.declared.turns.Turn.the-variants.{GatherW, Exchange, Shear, Gather, Scale, ClearV, ClearPartnerW, ClearPartnerV, ShearPartner, Fourier, PhaseZ, PhaseX}
 

@@ -9,7 +9,7 @@ use lib.Seq.{sets}
 use Rattle.pauli.specs.Pauli.{Pauli}
 use Rattle.gates.specs.Row.{Row, undo}
 use Rattle.gates.specs.Written.{WrittenRow, written, meant, legalRow, encodeRows}
-use Rattle.synthesis.specs.Reduce.{State, put}
+use Rattle.synthesis.specs.inner.Reduce.{State, put}
 
 -- the undo rows of the rows so far, in the order in which those were made
 unfoldable pub undoRows : ℕ → List Row → List WrittenRow
