@@ -85,6 +85,43 @@ static void undo_both_ways(const uint8_t *units)
     free(list);
 }
 
+/* What an output held before makes no difference to the list; bytes after the
+   list stay. */
+static void old_bytes(const uint8_t *tableau)
+{
+    enum { ROOM = CLIFFORD_SYNTHESIS_BYTES(2) };
+    uint8_t zeros[ROOM], ones[ROOM];
+    struct clifford_answer first, second;
+    size_t len;
+
+    memset(zeros, 0, sizeof zeros);
+    memset(ones, 0xFF, sizeof ones);
+    first = clifford_synthesis(4, 2, tableau, CLIFFORD_TABLEAU_BYTES(2), zeros, sizeof zeros);
+    second = clifford_synthesis(4, 2, tableau, CLIFFORD_TABLEAU_BYTES(2), ones, sizeof ones);
+    len = first.value * CLIFFORD_ROW_BYTES;
+    expect(answers(first, 0, second.value) && second.number == 0, "old bytes, the counts");
+    expect(len > 0 && memcmp(zeros, ones, len) == 0, "old bytes, the lists");
+    for (size_t i = len; i < sizeof zeros; i++)
+        expect(zeros[i] == 0 && ones[i] == 0xFF, "old bytes, after the list");
+}
+
+/* Columns 0; 1; 1 and 0; 0; 1 for d = 2: parity. With 1 added to the phase of
+   the first, whose sum is odd, the tableau is sound, as the header says. */
+static void parity_advice(void)
+{
+    const uint16_t numbers[] = {0, 1, 1, 0, 0, 1};
+    uint8_t *tableau = lend(numbers, 6);
+    uint8_t *out = output(CLIFFORD_SYNTHESIS_BYTES(1));
+
+    expect(answers(clifford_synthesis(2, 1, tableau, 12, out, CLIFFORD_SYNTHESIS_BYTES(1)),
+                   CLIFFORD_PARITY, 0), "parity advice, the refusal");
+    expect_output(NULL, 0, CLIFFORD_SYNTHESIS_BYTES(1), "parity advice, output on refusal");
+    tableau[0] = 1;
+    expect(clifford_synthesis(2, 1, tableau, 12, out, CLIFFORD_SYNTHESIS_BYTES(1)).number == 0,
+           "parity advice, sound");
+    free(tableau);
+}
+
 int main(void)
 {
     /* d = 4, n = 2: the document's list and its tableau. */
@@ -119,6 +156,8 @@ int main(void)
     uint8_t *out;
 
     undo_both_ways(units);
+    old_bytes(tableau);
+    parity_advice();
 
     expect(answers(clifford_least_multiplier(6, 2, 1), 0, 3), "least multiplier");
     expect(answers(clifford_least_multiplier(6, 6, 1), CLIFFORD_RANGE, 0),
