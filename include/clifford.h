@@ -105,7 +105,8 @@ enum {
        such column is sound. */
     CLIFFORD_PARITY = 8,
 
-    /* The text program alone: a line breaks the layout. No call gives it. */
+    /* The text program alone: a line breaks the layout, or the input could not
+       be read to its end. No call gives it. */
     CLIFFORD_TEXT = 9
 };
 
