@@ -1,6 +1,7 @@
 -- Laws of the refusals' numbers: what is known past a check, and what a call hands back where one refuses. Assumes nothing.
 use mathlib.Core.Path.{_≡_, refl, sym, _∙_, ap}
 use mathlib.Core.List.{List}
+use mathlib.Core.Logic.{_≢_}
 use mathlib.Core.Bool.{Bool, true, false, _&&_}
 use Prim.Native.Nat.{ℕ, zero, suc, _*_, _%_, _≤_, _<_}
 use native.Mathlib.Omega.{arith}
@@ -53,6 +54,10 @@ pub stop : (x y : ℕ) {k : Refusal} {r : Check} → numberOf r ≡ x → r ≡ 
 stop zero y e g = absurd (not-zero e g)
 stop (suc x) y e g = stop-last (suc x) e g
 
+-- its number isn't 0
+pub stops-some : {r : Check} {z : ℕ} → Stops r z → z ≢ 0
+stops-some {z = z} s e = let o : _≡_ {A = ℕ} 0 1 = s .value 1 ∙ ap (λ (x : ℕ). unless x 1) e in omega arith
+
 -- what a refused call promises
 pub stop-answered : {r : Check} {z : ℕ} {a : Answer} (v : ℕ) → Stops r z → (a .number ≡ numberOf r) × (a .value ≡ 0) → Answered z v a
 stop-answered v s e = record { number = e .0 ∙ s .same; value = e .1 ∙ s .value v }
@@ -88,6 +93,13 @@ stop-second x y s e f g = rw (s ∙ orElse-skip y e) (stop-last y f g)
 
 pub written-second : {z r : ℕ} (x y : ℕ) {answer old new : List ℕ} → z ≡ orElse x y → x ≡ 0 → Written y answer old new r → Written z answer old new r
 written-second x y s e w = rw (s ∙ orElse-skip y e) w
+
+-- ---- one test: it fails, and the refusal has its number; or it holds
+pub test-refused : (k : Refusal) (test : Bool) → test ≡ false → refusalNumber k ≡ unlessHolds k test
+test-refused k test e = rw e
+
+pub test-passed : (k : Refusal) (test : Bool) → test ≡ true → 0 ≡ unlessHolds k test
+test-passed k test e = rw e
 
 -- ---- what holds where nothing is refused
 pub held : (k : Refusal) (test : Bool) → unlessHolds k test ≡ 0 → test ≡ true

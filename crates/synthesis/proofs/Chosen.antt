@@ -1,5 +1,5 @@
 -- The list handed back is a function of d, n and the tableau: two calls with one tableau and outputs of one length hand back one list, whatever the outputs held. Assumes nothing.
-use mathlib.Core.Path.{_≡_, refl, sym, _∙_, ap}
+use mathlib.Core.Path.{_≡_, sym, _∙_, ap}
 use mathlib.Core.Logic.{_≢_}
 use mathlib.Core.List.{List, map}
 use Prim.Native.Nat.{ℕ, _*_}
@@ -9,16 +9,15 @@ use lib.Seq.{take-at}
 use Rattle.arith.specs.Bytes.{front}
 use Rattle.arith.specs.Refusals.{numberOf}
 use Rattle.arith.proofs.Cases.{by-eq}
-use Rattle.arith.proofs.Refusals.{Stops}
+use Rattle.arith.proofs.Refusals.{Stops, stops-some}
 use Rattle.arith.specs.declared.checks.Check.{Check}
 use Rattle.arith.specs.declared.checks.Answer.{Answer}
-use Rattle.gates.specs.Written.{written, encodeRows, rowsOf}
+use Rattle.gates.specs.Written.{written, rowsOf}
 use Rattle.gates.proofs.Written.{rows-bytes}
 use Rattle.tableau.specs.Bytes.{decodeTableau}
 use Rattle.synthesis.specs.inner.Reduce.{synthesised}
 use Rattle.synthesis.specs.Demand3.{handed, synthesisRefusal, Synthesised}
 use Rattle.synthesis.specs.Chosen.{listOf, Chosen}
-use Rattle.synthesis.proofs.Handed.{stops-some}
 
 -- ---- an accepted call, and a refused one
 pub chosen-accepted : {d n : ℕ} {bytes new : List ℕ} {a : Answer} (old : List ℕ) → a .value ≡ length (synthesised d n (decodeTableau n bytes)) → new ≡ front (listOf d n bytes) old → Chosen d n bytes new a

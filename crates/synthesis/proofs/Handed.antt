@@ -9,8 +9,8 @@ use lib.ListN.{length, take, drop, length-map}
 use lib.Seq.{take-at, drop-at}
 use Rattle.arith.specs.Bytes.{front}
 use Rattle.arith.proofs.Bytes.{write-front}
-use Rattle.arith.specs.Refusals.{orElse, unless, roomOf}
-use Rattle.arith.proofs.Refusals.{Stops, orElse-none, orElse-skip, orElse-assoc}
+use Rattle.arith.specs.Refusals.{orElse, roomOf}
+use Rattle.arith.proofs.Refusals.{Stops, stops-some, orElse-none, orElse-skip, orElse-assoc}
 use Rattle.arith.specs.Refusals.{numberOf}
 use Rattle.arith.specs.declared.checks.Check.{Check}
 use Rattle.arith.specs.declared.checks.Answer.{Answer}
@@ -121,10 +121,7 @@ module _ {d n : ℕ} {bytes old new : List ℕ} {a : Answer} (e : a .number ≡ 
       let w = accepted-given d n bytes (length old) (sym e ∙ z) in
       promise (λ q. hands-back (w .0 .dimension .d-low) (formed-given (w .0)) (w .1) v f) (λ ne. absurd (ne z))
 
--- where it is refused: the number isn't 0
-pub stops-some : {z : ℕ} {r : Check} → Stops r z → z ≢ 0
-stops-some {z} s e = let o : _≡_ {A = ℕ} 0 1 = s .value 1 ∙ ap (λ (x : ℕ). unless x 1) e in omega arith
-
+-- where it is refused
 pub promise-refused : {d n : ℕ} {bytes old : List ℕ} {a : Answer} {r : Check} → Stops r (synthesisRefusal d n bytes (length old)) → (a .number ≡ numberOf r) × (a .value ≡ 0) → Synthesised d n bytes old old a
 promise-refused {d} {n} {bytes} {old} {a} s e =
     let q : a .number ≡ synthesisRefusal d n bytes (length old) = e .0 ∙ s .same in

@@ -1,5 +1,5 @@
 -- Demand 3 from its premises: the call isn't malformed exactly when they hold, and then its promise is demand 3. Assumes nothing.
-use mathlib.Core.Path.{_≡_, sym, _∙_, subst}
+use mathlib.Core.Path.{_≡_, _∙_, subst}
 use mathlib.Core.List.{List}
 use mathlib.Core.Logic.{_↔_, _⊎_}
 use Prim.Native.Nat.{ℕ, _+_, _*_}
@@ -9,7 +9,6 @@ use Rattle.arith.specs.Refusals.{givenOf, sizeOf, roomOf}
 use Rattle.arith.proofs.Refusals.{orElse-none, orElse-skip, given-good, size-good, room-good}
 use Rattle.arith.proofs.Passes.{given-passes, size-passes, room-passes, both-pass}
 use Rattle.arith.specs.declared.checks.Answer.{Answer}
-use Rattle.pauli.specs.Pauli.{Pauli}
 use Rattle.tableau.specs.Tableau.{WellFormed}
 use Rattle.tableau.specs.Bytes.{tableauBytes, decodeTableau}
 use Rattle.tableau.specs.Soundness.{soundnessOf}

@@ -10,11 +10,10 @@ use lib.ListN.{length, getD, drop, drop-of-length-le, List·getD-append}
 use lib.Seq.{drop-cons, getD-append-add}
 use Rattle.arith.specs.Bytes.{tab}
 use Rattle.arith.proofs.Bytes.{tab-length, tab-at, tab-ext, tab-list, tab-map}
-use Rattle.arith.specs.Refusals.{orElse, numberOf, pairingOf, parityOf}
+use Rattle.arith.specs.Refusals.{orElse, numberOf, pairingOf}
 use Rattle.arith.specs.declared.checks.Check.{Check}
 use Rattle.arith.specs.declared.checks.Check.the-variants.{Refused}
 use Rattle.arith.specs.declared.checks.Refusal.{Refusal}
-use Rattle.arith.specs.declared.checks.Refusal.the-variants.{Pairing, Parity}
 use Rattle.arith.proofs.Refusals.{not-zero}
 use Rattle.pauli.specs.Pauli.{Pauli, product, power, phaseOnly, unit}
 use Rattle.pauli.specs.Range.{pauliRangeOf}
@@ -56,27 +55,11 @@ multiplied-next d n x t ks j h l e p = p ∙ rw (e, add-one j, drop-cons t j (ph
 pub multiplied-end : (d n : ℕ) (x : Pauli) (t : List Pauli) (ks : List ℕ) (j : ℕ) → length t ≤ j → multiplied d n x (drop j t) (drop j ks) ≡ x
 multiplied-end d n x t ks j h = rw (drop-of-length-le t h) refl
 
--- ---- what a test's answer says of the test, and the test of the answer
+-- ---- what an answer of the pairing test says of the test
 pub pairing-failed : (holds : Bool) {k : Refusal} {r : Check} → numberOf r ≡ pairingOf holds → r ≡ Refused k → holds ≡ false
 unfolding pairingOf
 pairing-failed true e g = absurd (not-zero e g)
 pairing-failed false e g = refl
-
-pub pairing-refused : (holds : Bool) → holds ≡ false → numberOf (Refused Pairing) ≡ pairingOf holds
-unfolding pairingOf
-pairing-refused holds e = rw e
-
-pub pairing-passed : (holds : Bool) → holds ≡ true → 0 ≡ pairingOf holds
-unfolding pairingOf
-pairing-passed holds e = rw e
-
-pub parity-refused : (holds : Bool) → holds ≡ false → numberOf (Refused Parity) ≡ parityOf holds
-unfolding parityOf
-parity-refused holds e = rw e
-
-pub parity-passed : (holds : Bool) → holds ≡ true → 0 ≡ parityOf holds
-unfolding parityOf
-parity-passed holds e = rw e
 
 -- ---- the power of column j: v at j, then w at j − n
 pub power-v : (n j : ℕ) (f g : ℕ → ℕ) → j < n → f j ≡ getD (tab f n ++ tab g n) j 0

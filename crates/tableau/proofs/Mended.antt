@@ -1,11 +1,11 @@
 -- Refusal 8's advice: a tableau whose pairing holds is sound once 1 is added, modulo 2·d, to the phase of each column whose sum is odd. Assumes nothing.
 use mathlib.Core.Path.{_≡_, refl, _∙_, ap}
-use mathlib.Core.List.{List, [], _∷_, map}
-use Prim.Native.Nat.{ℕ, zero, suc, _+_, _*_, _-_, _%_, _≤_, _<_}
+use mathlib.Core.List.{List, [], _∷_}
+use Prim.Native.Nat.{ℕ, zero, suc, _+_, _*_, _-_, _%_, _<_}
 use native.Mathlib.Nat.{mod-lt, mod-eq-of-lt}
 use native.Mathlib.Omega.{arith}
 use lib.ListN.{length, getD}
-use Rattle.arith.proofs.Cong.{Cong, cong-mod, cong-elim, cong-intro}
+use Rattle.arith.proofs.Cong.{cong-mod, cong-elim, cong-intro}
 use Rattle.pauli.specs.Pauli.{Pauli, InRange, dot, comm, parity, phaseOnly}
 use Rattle.pauli.proofs.Ranges.{phase-range}
 use Rattle.tableau.specs.Tableau.{column, Pairing, WellFormed, Sound}

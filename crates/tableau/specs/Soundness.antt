@@ -40,7 +40,7 @@ bothSoundnessOf d n t u =
     (orElse (parityOf (parityHolds d n t))
     (parityOf (parityHolds d n u))))
 
--- ---- what refusal 8 advises: 1 is added, modulo 2·d, to the phase of each column whose sum is odd. `mended-sound` of proofs/Mended says that this makes the tableau sound.
+-- ---- what refusal 8 advises: 1 is added, modulo 2·d, to the phase of each column whose sum is odd (there `parity` is 1, else 0). `mended-sound` of proofs/Mended says that this makes the tableau sound.
 abbrev pub mendedColumn : ℕ → Pauli → Pauli
 mendedColumn d c = record { phase = (c .phase + parity d c) % (2 * d); v = c .v; w = c .w }
 

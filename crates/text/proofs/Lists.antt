@@ -11,9 +11,10 @@ use lib.Dec.{leb, eqb}
 use borrow.Author.Tests.{leb-true, leb-false, le-leb, lt-leb, eq-eqb}
 use Rattle.arith.specs.Bytes.{bytesOf, front}
 use Rattle.arith.specs.Answers.{Written}
-use Rattle.arith.specs.declared.checks.Refusal.the-variants.{Length, Room}
+use Rattle.arith.specs.declared.checks.Refusal.the-variants.{Length}
 use Rattle.arith.specs.Refusals.{orElse, givenOf, listSizeOf, roomOf, rowOf, unlessHolds}
 use Rattle.arith.proofs.Refusals.{given-good}
+use Rattle.arith.proofs.Passes.{room-passes}
 use Rattle.pauli.specs.Pauli.{Pauli}
 use Rattle.pauli.specs.Bytes.{numbersOf}
 use Rattle.pauli.proofs.Ranges.{entries-length}
@@ -85,10 +86,6 @@ list-size k =
     let e : eqb (8 * k % 8) 0 ≡ true = eq-eqb (8 * k % 8) 0 (omega arith) in
     ap₂ (λ (a b : Bool). unlessHolds Length (a && b)) e (large-lists k)
 
-pub has-room : (want have : ℕ) → want ≤ have → roomOf want have ≡ 0
-unfolding roomOf
-has-room want have h = ap (unlessHolds Room) (le-leb want have h)
-
 pub rows-concatenated : (rows : List WrittenRow) → concatenated rowNumbers rows ≡ listNumbers rows
 unfolding concatenated listNumbers
 rows-concatenated [] = refl
@@ -101,7 +98,7 @@ refusal-same d n list rows room e h = given-first d n _ _ (λ g. ap₂ orElse si
     sized = ap listSizeOf (ap length e ∙ rows-bytes rows) ∙ list-size (length rows)
 
     roomy : n ≤ 16 → roomOf (tableauBytes n) room ≡ 0
-    roomy l = has-room (tableauBytes n) room (omega (arith, tableau-small n l))
+    roomy l = room-passes {want = tableauBytes n} (omega (arith, tableau-small n l))
 
     rowed : rowOf (allLegalRows d n (listRows list)) ≡ rowOf (allLegalRows d n rows)
     rowed = ap (λ (l : List WrittenRow). rowOf (allLegalRows d n l)) (ap listRows e ∙ list-encoded rows)

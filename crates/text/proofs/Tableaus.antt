@@ -7,7 +7,6 @@ use Prim.Native.Nat.{ℕ, suc, _+_, _*_, _/_, _≤_}
 use native.Mathlib.Omega.{arith}
 use lib.ListN.{length, take, length-map, length-append}
 use lib.Seq.{take-at, drop-at}
-use borrow.Author.Tests.{eq-eqb}
 use borrow.Author.Needs.{needs}
 use Rattle.arith.specs.Bytes.{tab, numberAt, numbersAt, bytesOf}
 use Rattle.arith.specs.declared.checks.Refusal.{Refusal}
@@ -18,6 +17,7 @@ use Rattle.arith.specs.declared.checks.Check.the-variants.{Good, Refused}
 use Rattle.arith.specs.declared.checks.Answer.{Answer}
 use Rattle.arith.proofs.Bytes.{tab-cons, tab-append, tab-ext, tab-length, tab-map, bytes-length}
 use Rattle.arith.proofs.Refusals.{Given, good, stop, not-zero, orElse-none, orElse-assoc, given-good, size-good, held, both-held}
+use Rattle.arith.proofs.Passes.{size-passes, room-passes}
 use Rattle.pauli.specs.Pauli.{Pauli}
 use Rattle.pauli.specs.Bytes.{decodeAt}
 use Rattle.gates.specs.Row.{Row, F, S, A, M, X, Z, Legal}
@@ -34,7 +34,7 @@ use Rattle.text.specs.Convert.{fullColumns, pauliOf, countsOf, columnsMa
 use Rattle.text.specs.inner.FromBytes.{TableauConverts, ColumnsConvert}
 use Rattle.text.proofs.Digits.{five-digits}
 use Rattle.text.proofs.Back.{full-length, columns-back}
-use Rattle.text.proofs.Lists.{given-first, has-room}
+use Rattle.text.proofs.Lists.{given-first}
 use Rattle.text.proofs.Unique.{refusal-unique, refusal-no-list}
 
 -- ---- the tableau in the bytes is that of the columns
@@ -75,13 +75,9 @@ counts-good : (n count : ℕ) (full : Bool) → countsOf n count full ≡ 0 → 
 unfolding countsOf
 counts-good n count full e = let z = orElse-none (unlessHolds Length full) (sizeOf (2 * n) count) e in (held Length full (z .0), size-good (z .1))
 
-size-holds : (want have : ℕ) → have ≡ want → sizeOf want have ≡ 0
-unfolding sizeOf
-size-holds want have e = ap (unlessHolds Length) (eq-eqb have want e)
-
 counts-hold : (n count : ℕ) (full : Bool) → full ≡ true → count ≡ 2 * n → countsOf n count full ≡ 0
 unfolding countsOf
-counts-hold n count full e f = rw e (size-holds (2 * n) count f)
+counts-hold n count full e f = rw e (size-passes {want = 2 * n} {have = count} f)
 
 pub counts-full : (n count : ℕ) (full : Bool) (r : ℕ) → full ≡ true → r ≡ sizeOf (2 * n) count → r ≡ countsOf n count full
 unfolding countsOf
@@ -104,7 +100,7 @@ module _ (d n : ℕ) (bytes : List ℕ) (columns : List (List ℕ)) (full : full
     where
       rest : n ≤ 16 → orElse (sizeOf (tableauBytes n) (length bytes)) (orElse (roomOf (40 * (n * n) + 48 * n) room) (tableauRangeOf d (decodeTableau n bytes)))
           ≡ orElse (countsOf n (length columns) (fullColumns n columns)) (tableauRangeOf d (map (pauliOf n) columns))
-      rest h = rw (size-holds (tableauBytes n) (length bytes) sized, has-room (40 * (n * n) + 48 * n) room (omega (arith, large, square-small n h)), decoded, counts-hold n (length columns) (fullColumns n columns) full many)
+      rest h = rw (size-passes {want = tableauBytes n} {have = length bytes} sized, room-passes {want = 40 * (n * n) + 48 * n} {have = room} (omega (arith, large, square-small n h)), decoded, counts-hold n (length columns) (fullColumns n columns) full many)
 
   refusal-same : (room : ℕ) → 11008 ≤ room → synthesisRefusal d n bytes room ≡ columnsRefusal d n columns
   refusal-same room large = ap₂ orElse (malformed-same room large) (ap (soundnessOf d n) decoded)

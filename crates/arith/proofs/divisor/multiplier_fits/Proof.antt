@@ -10,8 +10,8 @@ use Rattle.arith.proofs.divisor.multiplier_fits.Statement.{statement}
 use Rattle.arith.proofs.divisor.multiplier_fits.Tie as tie
 
 -- the product of two 16-bit numbers
-fits : (c : tie.After-value2) → c .before .before .args .m * c .value2 .result ≤ 4294836225
-fits c =
+small : (c : tie.After-value2) → c .before .before .args .m * c .value2 .result ≤ 4294836225
+small c =
     let h : c .before .before .args .m ≤ 65535 = search needs in
     let k : c .value2 .result ≤ 65535 = search needs in
     mul-le-mul h k
@@ -27,7 +27,7 @@ multiplier-fits-spec = tie.close (tie.spec
     (λ c. search needs)  -- cast-sum
     (λ c κs. search needs)  -- value-requires-2
     (λ c. search needs)  -- cast-sum-2
-    (λ c. omega (arith, fits c))  -- mul-sum
-    (λ c. omega (arith, fits c))  -- add-sum
+    (λ c. omega (arith, small c))  -- mul-sum
+    (λ c. omega (arith, small c))  -- add-sum
     (λ c κs. search needs)  -- common-divisor-requires
     returns)

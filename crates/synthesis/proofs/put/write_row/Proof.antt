@@ -1,7 +1,7 @@
 -- `synthesis::put::write_row` meets its contract. The invariant: the numbers passed are written from number 4·r on (`write-next`).
-use mathlib.Core.Path.{_≡_, refl, sym, _∙_, ap}
-use mathlib.Core.List.{List, [], _∷_}
-use Prim.Native.Nat.{ℕ, _+_, _-_, _*_, _≤_}
+use mathlib.Core.Path.{_≡_, refl, _∙_, ap}
+use mathlib.Core.List.{[], _∷_}
+use Prim.Native.Nat.{ℕ, _-_, _*_, _≤_}
 use lib.ListN.{length, getD}
 use lib.Seq.{sets}
 use Rattle.arith.specs.Bytes.{tab, bytesOf}

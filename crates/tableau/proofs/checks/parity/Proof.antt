@@ -2,8 +2,11 @@
 use mathlib.Core.Path.{_≡_, sym, ap, _∙_}
 use Prim.Native.Nat.{_*_, _-_, _≤_}
 use borrow.Author.Tests.{eq-eqb, ne-eqb}
+use Rattle.arith.specs.Refusals.{parityOf}
+use Rattle.arith.specs.declared.checks.Refusal.the-variants.{Parity}
+use Rattle.arith.proofs.Refusals.{test-refused, test-passed}
 use Rattle.pauli.specs.Pauli.{parity}
-use Rattle.tableau.proofs.Loops.{all-start, all-pass, all-fail, all-end, parity-refused, parity-passed}
+use Rattle.tableau.proofs.Loops.{all-start, all-pass, all-fail, all-end}
 use Rattle.tableau.specs.Tableau.{upFrom}
 use Rattle.tableau.specs.inner.View.{tableView}
 use Rattle.tableau.specs.Soundness.{all, evenPasses, parityHolds}
@@ -24,15 +27,17 @@ loop-holds c =
     (omega arith, all-start (evenPasses (a .d) (a .n) (tableView (a .n) (a .t .now))) (2 * a .n))
 
 returns : tie.Need-returns Inv-loop μ-loop
-returns c = parity-refused _ (c .before .before .before .before .loop .inv .1 ∙ all-fail _ _ _ (c .before .before .before .loop-test .taken) (ne-eqb _ 0 (λ e. c .if1 .taken (c .before .parity .ensures ∙ ap (parity _) (c .before .before .column .ensures _ (omega arith) (omega arith)) ∙ e))))
+unfolding parityOf
+returns c = test-refused Parity _ (c .before .before .before .before .loop .inv .1 ∙ all-fail _ _ _ (c .before .before .before .loop-test .taken) (ne-eqb _ 0 (λ e. c .if1 .taken (c .before .parity .ensures ∙ ap (parity _) (c .before .before .column .ensures _ (omega arith) (omega arith)) ∙ e))))
 
 loop-again : tie.Need-loop-again Inv-loop μ-loop
 loop-again c = (omega arith, c .before .before .before .before .loop .inv .1 ∙ all-pass _ _ _ (c .before .before .before .loop-test .taken) (eq-eqb _ 0 (ap (parity _) (sym (c .before .before .column .ensures _ (omega arith) (omega arith))) ∙ sym (c .before .parity .ensures) ∙ c .if1 .left)))
 
 returns-2 : tie.Need-returns-2 Inv-loop μ-loop
+unfolding parityOf
 returns-2 c =
     let e : 2 * c .before .before .args .n ≤ c .before .loop .j = omega arith in
-    parity-passed _ (c .before .loop .inv .1 ∙ all-end _ _ _ e)
+    test-passed Parity _ (c .before .loop .inv .1 ∙ all-end _ _ _ e)
 
 pub parity-spec : {M : Type 1} → statement M
 parity-spec = tie.close (tie.spec Inv-loop μ-loop
