@@ -1,5 +1,5 @@
 -- Laws of the greatest common divisor: it divides both, every common divisor divides it; Bezout, Gauss, the inverse of a unit.
-use mathlib.Core.Path.{_≡_, refl}
+use mathlib.Core.Path.{_≡_, refl, _∙_, ap}
 use mathlib.Core.List.{[], _∷_}
 use Prim.Native.Nat.{ℕ, zero, suc, _+_, _*_, _/_, _%_, _≤_, _<_}
 use native.Mathlib.Nat.{mod-lt, mod-add-div', div-add-mod', not-suc-le-zero, zero-lt-suc, le-refl}
@@ -66,6 +66,10 @@ gcd-next (suc x) y p = gcd-step x y
 -- it depends on a only modulo d
 pub gcd-cong : {d a b : ℕ} → Cong d a b → gcd a d ≡ gcd b d
 gcd-cong {d} {a} {b} e = gcd-unique (dvd-resp (gcd-right b d) (cong-sym e) (gcd-left b d)) (gcd-right b d) (λ c h k. gcd-greatest (dvd-resp k e h) k)
+
+-- a number taken modulo d has the common divisor with d that it had
+pub gcd-mod : (d y : ℕ) {x : ℕ} → x ≡ y % d → gcd x d ≡ gcd y d
+gcd-mod d y e = ap (λ (z : ℕ). gcd z d) e ∙ gcd-cong (cong-mod y)
 
 -- ---- Bezout, modulo d: u·a ≡ gcd a d. By Euclid's recursion: u′·(d % a) ≡ g (mod a) gives k and l with u′·(d % a) + k·a = g + l·a, and then u = k − l − u′·(d / a).
 pub record Bezout (a d g : ℕ) : Type 0 where

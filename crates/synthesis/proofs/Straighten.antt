@@ -5,11 +5,10 @@ use mathlib.Core.List.{List}
 use Prim.Native.Nat.{ℕ, _+_, _*_, _%_, _<_}
 use native.Mathlib.Omega.{arith}
 use Rattle.arith.proofs.Cases.{eqb-case, ltb-case}
-use Rattle.arith.proofs.Cong.{cong-mod}
 use Rattle.arith.proofs.Divides.{Dvd, dvd-trans, dvd-as}
 use Rattle.arith.specs.Residues.{neg}
 use Rattle.arith.specs.Gcd.{gcd}
-use Rattle.arith.proofs.Gcd.{gcd-left, gcd-right, gcd-greatest, gcd-cong}
+use Rattle.arith.proofs.Gcd.{gcd-left, gcd-right, gcd-greatest, gcd-mod}
 use Rattle.arith.specs.Units.{leastMultiplier, divides, quotient}
 use Rattle.arith.proofs.Units.{least-gcd}
 use Rattle.arith.proofs.Quotient.{quotient-times, dvd-minus, minus-dvd, level-zero, rem-dvd}
@@ -32,7 +31,7 @@ gathered-from d a b m x e f = record {
 }
   where
     same : gcd x d ≡ gcd (gcd a b) d
-    same = ap (λ (z : ℕ). gcd z d) f ∙ gcd-cong (cong-mod (a + m * b)) ∙ e
+    same = gcd-mod d (a + m * b) f ∙ e
 
 -- once exchanged: gcd(−x, d) divides b, and gcd(x, d) divides −b
 exchanged-dvd : (d a b x : ℕ) → 0 < d → Gathered d a b x → Dvd (gcd (neg d x % d) d) b
