@@ -7,7 +7,7 @@
 # make clean       removes what was built
 
 PREFIX ?= /usr/local
-VERSION = 1.1.1
+VERSION = 1.1.2
 
 .PHONY: all test gate hosts lib program install clean
 

@@ -2,9 +2,10 @@
 //! the stack that each call of the library uses, and the rows of synthesis, as
 //! one Markdown table. BENCH_MS is the least time of a round.
 //!
-//! Then, in tables of their own, how long the lists of the library's synthesis
-//! are, and what time it takes on 16 qudits. The lists are counted without a
-//! clock, so those figures are the same in every run.
+//! Then, in tables of their own, the least multiplier where its search is
+//! longest, how long the lists of the library's synthesis are, and what time it
+//! takes on 16 qudits. The lists are counted without a clock, so those figures
+//! are the same in every run.
 
 use library::{library, reference as reference_call, Layout, Lent, Name, Numbers, NAMES};
 use reference::random::Random;
@@ -224,6 +225,60 @@ fn print_calls(milliseconds: u32) {
     }
 }
 
+// ------------------------------------------------------------------- searches
+
+/// Two primes and a power of two near the limit, where a search takes one step
+/// at most. Then two d at which it takes the most of all d, 9: 840, at which
+/// the most pairs take them, and 1,020, the largest such d.
+const SEARCH_DIMENSIONS: [u16; 5] = [1009, 1021, 1024, 840, 1020];
+const MOST_SEARCHES: usize = 256;
+
+/// The largest of all least multipliers, and the pairs a, b that have it.
+fn longest_searches(d: u16) -> (i64, Vec<(u16, u16)>) {
+    let mut longest = (-1, vec![]);
+    for (a, b) in (0..d).flat_map(|a| (0..d).map(move |b| (a, b))) {
+        let m = reference::least_multiplier(a as i64, b as i64, d as i64);
+        if m > longest.0 {
+            longest = (m, vec![]);
+        }
+        if m == longest.0 {
+            longest.1.push((a, b));
+        }
+    }
+    longest
+}
+
+fn print_longest_searches(time: f64) {
+    println!("\n## Longest searches for the least multiplier\n");
+    println!(
+        "The largest least multiplier at d, how many pairs a, b have it, and nanoseconds for a \
+         call, the mean over {MOST_SEARCHES} of those pairs, evenly spaced; best of {ROUNDS} rounds \
+         of processor time.\n"
+    );
+    println!("| d | largest m | pairs | library, ns | reference, ns | ratio |");
+    println!("|---|---|---|---|---|---|");
+    for d in SEARCH_DIMENSIONS {
+        let (m, pairs) = longest_searches(d);
+        let inputs: Vec<Input> = (0..MOST_SEARCHES)
+            .map(|i| pairs[i * pairs.len() / MOST_SEARCHES])
+            .map(|(a, b)| Input {
+                name: Name::LeastMultiplier,
+                numbers: Numbers { d, n: 0, a, b },
+                first: vec![],
+                second: vec![],
+            })
+            .collect();
+        let (own, other) = both(&inputs, &mut [], time);
+        println!(
+            "| {d} | {m} | {} | {:.1} | {:.1} | {:.2} |",
+            pairs.len(),
+            1e9 / own,
+            1e9 / other,
+            own / other
+        );
+    }
+}
+
 // ---------------------------------------------------------------------- lists
 
 const RANDOM_DIMENSIONS: [u16; 5] = [2, 3, 6, 97, 1024];
@@ -378,8 +433,10 @@ fn main() {
     let milliseconds = std::env::var("BENCH_MS")
         .ok()
         .map_or(2, |text| text.parse().expect("BENCH_MS is no number"));
+    let time = milliseconds as f64 / 1000.0;
     print_calls(milliseconds);
+    print_longest_searches(time);
     print_lists_of_random_tableaus();
     print_lists_of_sparse_operations();
-    print_time_of_synthesis(milliseconds as f64 / 1000.0);
+    print_time_of_synthesis(time);
 }

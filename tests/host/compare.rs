@@ -681,16 +681,19 @@ fn examples(host: &mut Host) {
 
 // ------------------------------------------------------------ exhaustive parts
 
-/// The least multiplier for all a and b, for small d.
+/// The least multiplier for all a and b: for small d, for two primes and a
+/// power of two near the limit, and for 840 and 1,020, where it is as large as
+/// at any d.
 fn every_multiplier(host: &mut Host) {
-    for d in 2..=24 {
-        for code in 0..d * d {
+    let large = [840, 1009, 1020, 1021, 1024];
+    for d in (2..=24).chain(large) {
+        for (a, b) in (0..d).flat_map(|a| (0..d).map(move |b| (a, b))) {
             let mut case = Case::new(Name::LeastMultiplier, d, 0, vec![], vec![]);
-            (case.numbers.a, case.numbers.b) = (code / d, code % d);
+            (case.numbers.a, case.numbers.b) = (a, b);
             host.compare(&case);
         }
     }
-    println!("least multiplier: all a and b for d from 2 to 24");
+    println!("least multiplier: all a and b for d from 2 to 24, and d in {large:?}");
 }
 
 /// Synthesis on every tableau for n = 1 that keeps pairing, with all phases,

@@ -160,6 +160,9 @@ int main(void)
     parity_advice();
 
     expect(answers(clifford_least_multiplier(6, 2, 1), 0, 3), "least multiplier");
+    expect(answers(clifford_least_multiplier(840, 2, 1), 0, 9), "least multiplier, a long search");
+    expect(answers(clifford_least_multiplier(1009, 0, 1008), 0, 1),
+           "least multiplier, the largest step");
     expect(answers(clifford_least_multiplier(6, 6, 1), CLIFFORD_RANGE, 0),
            "least multiplier, a refusal");
 

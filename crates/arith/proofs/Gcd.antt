@@ -8,7 +8,7 @@ use Rattle.arith.specs.Gcd.{euclid, gcd}
 use Rattle.arith.proofs.Cong.{Cong, cong-intro, cong-elim, cong-refl, cong-sym, cong-trans, cong-mul, cong-of-eq, cong-mod}
 use Rattle.arith.specs.Residues.{neg}
 use Rattle.arith.proofs.Ring.{ring₁-by, times, _also_, quote}
-use Rattle.arith.proofs.Divides.{Dvd, dvd-refl, dvd-zero, dvd-add, dvd-mul-l, dvd-rest, dvd-antisym, dvd-cong, cong-dvd, dvd-resp}
+use Rattle.arith.proofs.Divides.{Dvd, dvd-refl, dvd-zero, dvd-trans, dvd-add, dvd-mul-l, dvd-rest, dvd-antisym, dvd-cong, cong-dvd, dvd-resp}
 
 -- g is a common divisor of a and b, and every common divisor divides it
 record Facts (a b g : ℕ) : Type 0 where
@@ -70,6 +70,23 @@ gcd-cong {d} {a} {b} e = gcd-unique (dvd-resp (gcd-right b d) (cong-sym e) (gcd-
 -- a number taken modulo d has the common divisor with d that it had
 pub gcd-mod : (d y : ℕ) {x : ℕ} → x ≡ y % d → gcd x d ≡ gcd y d
 gcd-mod d y e = ap (λ (z : ℕ). gcd z d) e ∙ gcd-cong (cong-mod y)
+
+-- of three numbers, in another order
+pub gcd-order : (a b d : ℕ) → gcd (gcd a b) d ≡ gcd b (gcd a d)
+gcd-order a b d =
+    let g = gcd-right b (gcd a d) in
+    gcd-unique (gcd-greatest (dvd-trans g (gcd-left a d)) (gcd-left b (gcd a d))) (dvd-trans g (gcd-right a d))
+    (λ c h k. gcd-greatest (dvd-trans h (gcd-right a b)) (gcd-greatest (dvd-trans h (gcd-left a b)) k))
+
+-- of three numbers, it depends on two only modulo the third
+both-divides : {d a a′ b b′ : ℕ} → Cong d a a′ → Cong d b b′ → Dvd (gcd (gcd a b) d) (gcd (gcd a′ b′) d)
+both-divides {d} {a} {a′} {b} {b′} e f =
+    let l = gcd-left (gcd a b) d in
+    let r = gcd-right (gcd a b) d in
+    gcd-greatest (gcd-greatest (dvd-resp r e (dvd-trans l (gcd-left a b))) (dvd-resp r f (dvd-trans l (gcd-right a b)))) r
+
+pub both-cong : {d a a′ b b′ : ℕ} → Cong d a a′ → Cong d b b′ → gcd (gcd a b) d ≡ gcd (gcd a′ b′) d
+both-cong e f = dvd-antisym (both-divides e f) (both-divides (cong-sym e) (cong-sym f))
 
 -- ---- Bezout, modulo d: u·a ≡ gcd a d. By Euclid's recursion: u′·(d % a) ≡ g (mod a) gives k and l with u′·(d % a) + k·a = g + l·a, and then u = k − l − u′·(d / a).
 pub record Bezout (a d g : ℕ) : Type 0 where

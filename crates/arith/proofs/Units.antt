@@ -1,5 +1,5 @@
 -- What specs/Units.antt computes: the first number below a bound, the inverse of a unit, the least multiplier.
-use mathlib.Core.Path.{_≡_, refl, sym, _∙_, ap, subst}
+use mathlib.Core.Path.{_≡_, refl, sym, _∙_, ap, ap₂, subst}
 use mathlib.Core.Bool.{Bool, true, false, not, cond}
 use mathlib.Core.Logic.{_≢_}
 use Prim.Native.Nat.{ℕ, zero, suc, _+_, _*_, _%_, _≤_, _<_}
@@ -7,11 +7,11 @@ use native.Mathlib.Nat.{mul-comm, mul-one, mod-eq-of-lt, mod-self}
 use native.Mathlib.Omega.{arith}
 use lib.Dec.{T, T-not, eqb, eqb→eq, eqb-refl}
 use Rattle.arith.proofs.Cases.{by-less}
-use Rattle.arith.proofs.Cong.{Cong, cong-eq, cong-trans, cong-of-eq}
+use Rattle.arith.proofs.Cong.{Cong, cong-eq, cong-trans, cong-of-eq, cong-refl, cong-sym, cong-add, cong-mul, cong-mod}
 use Rattle.arith.proofs.Divides.{dvd-refl, dvd-zero, dvd-one, dvd-mul-l, dvd-resp}
 use Rattle.arith.proofs.Remainders.{mod-of}
 use Rattle.arith.specs.Gcd.{gcd}
-use Rattle.arith.proofs.Gcd.{gcd-left, gcd-right, gcd-unique, inverse, gcd-zero-left, inverse-unique}
+use Rattle.arith.proofs.Gcd.{gcd-left, gcd-right, gcd-unique, gcd-cong, both-cong, inverse, gcd-zero-left, inverse-unique}
 use Rattle.arith.proofs.Multiplier.{multiplier}
 use Rattle.arith.proofs.First.{First, none-more, first-unique}
 use Rattle.arith.specs.Units.{fits, firstFrom, firstBelow, inverseOf, leastMultiplier}
@@ -160,3 +160,23 @@ still-below a b d k p h = let z = least-found d a b p in omega (arith, past (z .
   where
     past : First (fits a b d) (leastMultiplier d a b) → ¬ (leastMultiplier d a b < k)
     past f l = T-not (fits a b d (leastMultiplier d a b)) (h (leastMultiplier d a b) l) (f .passes)
+
+-- ---- the search for the least multiplier
+-- a and b may be brought below d: the sums are the same modulo d, so the same numbers fit
+pub sum-reduced : (d a b m : ℕ) → Cong d (a % d + m * (b % d)) (a + m * b)
+sum-reduced d a b m = cong-add (cong-mod a) (cong-mul (cong-refl m) (cong-mod b))
+
+fits-reduced : (d a b m : ℕ) → fits (a % d) (b % d) d m ≡ fits a b d m
+fits-reduced d a b m = ap₂ eqb (gcd-cong (sum-reduced d a b m)) (both-cong (cong-mod a) (cong-mod b))
+
+pub least-reduced : (d a b : ℕ) → 0 < d → leastMultiplier d (a % d) (b % d) ≡ leastMultiplier d a b
+least-reduced d a b p =
+    let f = least-found d (a % d) (b % d) p .first in
+    least-unique d a b p (leastMultiplier d (a % d) (b % d)) (record {
+      passes = subst T (fits-reduced d a b (leastMultiplier d (a % d) (b % d))) (f .passes);
+      none-before = λ j l. subst (λ (x : Bool). T (not x)) (fits-reduced d a b j) (f .none-before j l);
+    })
+
+-- a + m·b is kept modulo d: what is below d and congruent to the number kept with b added is the one for the next m
+pub kept-next : (d a b m x r : ℕ) → x ≡ (a + m * b) % d → Cong d r (x + b) → r < d → r ≡ (a + (m + 1) * b) % d
+kept-next d a b m x r e h l = sym (mod-of (a + (m + 1) * b) (cong-sym (cong-trans h (rw e (cong-trans (cong-add (cong-mod (a + m * b)) (cong-refl b)) (cong-of-eq (omega arith)))))) l)

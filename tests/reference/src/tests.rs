@@ -262,6 +262,8 @@ fn text_refusals() {
 #[test]
 fn arithmetic_by_search() {
     assert_eq!((gcd(0, 6), gcd(6, 0), gcd(0, 0)), (6, 6, 0));
+    assert_eq!(least_multiplier(2, 1, 840), 9);
+    assert_eq!(least_multiplier(0, 1008, 1009), 1);
     for d in 2..=60 {
         for q in 0..d {
             let found = (0..d).find(|r| q * r % d == 1);
