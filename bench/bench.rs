@@ -227,21 +227,28 @@ fn print_calls(milliseconds: u32) {
 
 // ------------------------------------------------------------------- searches
 
-/// Two primes and a power of two near the limit, where a search takes one step
-/// at most. Then two d at which it takes the most of all d, 9: 840, at which
-/// the most pairs take them, and 1,020, the largest such d.
+/// Two primes and a power of two near the limit, where no least multiplier is
+/// farther from zero than 1. Then two d at which one is as far as at any d, 5:
+/// 840, at which the most pairs have such a one, and 1,020, the largest such d.
 const SEARCH_DIMENSIONS: [u16; 5] = [1009, 1021, 1024, 840, 1020];
 const MOST_SEARCHES: usize = 256;
 
-/// The largest of all least multipliers, and the pairs a, b that have it.
-fn longest_searches(d: u16) -> (i64, Vec<(u16, u16)>) {
-    let mut longest = (-1, vec![]);
+/// A residue's, or a power's, distance from zero modulo m.
+fn distance(x: u16, m: u16) -> usize {
+    x.min(m - x) as usize
+}
+
+/// The largest distance of a least multiplier from zero, and the pairs a, b that
+/// have it.
+fn longest_searches(d: u16) -> (usize, Vec<(u16, u16)>) {
+    let mut longest = (0, vec![]);
     for (a, b) in (0..d).flat_map(|a| (0..d).map(move |b| (a, b))) {
         let m = reference::least_multiplier(a as i64, b as i64, d as i64);
-        if m > longest.0 {
-            longest = (m, vec![]);
+        let far = distance(m as u16, d);
+        if far > longest.0 {
+            longest = (far, vec![]);
         }
-        if m == longest.0 {
+        if far == longest.0 {
             longest.1.push((a, b));
         }
     }
@@ -251,14 +258,14 @@ fn longest_searches(d: u16) -> (i64, Vec<(u16, u16)>) {
 fn print_longest_searches(time: f64) {
     println!("\n## Longest searches for the least multiplier\n");
     println!(
-        "The largest least multiplier at d, how many pairs a, b have it, and nanoseconds for a \
-         call, the mean over {MOST_SEARCHES} of those pairs, evenly spaced; best of {ROUNDS} rounds \
-         of processor time.\n"
+        "The largest distance of a least multiplier from zero at d, how many pairs a, b have it, \
+         and nanoseconds for a call, the mean over {MOST_SEARCHES} of those pairs, evenly spaced; \
+         best of {ROUNDS} rounds of processor time.\n"
     );
-    println!("| d | largest m | pairs | library, ns | reference, ns | ratio |");
+    println!("| d | distance | pairs | library, ns | reference, ns | ratio |");
     println!("|---|---|---|---|---|---|");
     for d in SEARCH_DIMENSIONS {
-        let (m, pairs) = longest_searches(d);
+        let (far, pairs) = longest_searches(d);
         let inputs: Vec<Input> = (0..MOST_SEARCHES)
             .map(|i| pairs[i * pairs.len() / MOST_SEARCHES])
             .map(|(a, b)| Input {
@@ -270,7 +277,7 @@ fn print_longest_searches(time: f64) {
             .collect();
         let (own, other) = both(&inputs, &mut [], time);
         println!(
-            "| {d} | {m} | {} | {:.1} | {:.1} | {:.2} |",
+            "| {d} | {far} | {} | {:.1} | {:.1} | {:.2} |",
             pairs.len(),
             1e9 / own,
             1e9 / other,
@@ -281,7 +288,7 @@ fn print_longest_searches(time: f64) {
 
 // ---------------------------------------------------------------------- lists
 
-const RANDOM_DIMENSIONS: [u16; 5] = [2, 3, 6, 97, 1024];
+const RANDOM_DIMENSIONS: [u16; 6] = [2, 3, 6, 97, 840, 1024];
 const SPARSE_DIMENSIONS: [u16; 4] = [2, 6, 97, 1024];
 const MOST_QUDITS: u16 = 16;
 const SINGLE_ROWS: usize = 300;
@@ -328,10 +335,23 @@ fn ticks(rows: &[Row]) -> usize {
     last.into_iter().max().unwrap()
 }
 
-/// Mean and worst number of rows, A rows and ticks of the library's lists, as
-/// the cells of a line.
+/// The sum of the powers' distances from zero, F's modulo 4, S's modulo 2d and
+/// the others' modulo d: what the drives of a list take.
+fn drive(rows: &[Row], d: u16) -> usize {
+    let modulus = |row: &Row| match row.kind {
+        reference::F => 4,
+        reference::S => 2 * d,
+        _ => d,
+    };
+    rows.iter()
+        .map(|row| distance(row.power, modulus(row)))
+        .sum()
+}
+
+/// Mean and worst number of rows, A rows and ticks of the library's lists, and
+/// of their drives, as the cells of a line.
 fn list_cells(inputs: &[Input]) -> String {
-    let counts: Vec<[usize; 3]> = inputs
+    let counts: Vec<[usize; 4]> = inputs
         .iter()
         .map(|input| {
             let mut out = vec![0; input.name.room(input.numbers.n as usize)];
@@ -339,10 +359,15 @@ fn list_cells(inputs: &[Input]) -> String {
             assert_eq!(answer.number, 0, "a bench call was refused");
             let rows = calls::rows_of_bytes(&out[..calls::ROW_LEN * answer.value as usize]);
             let a_rows = rows.iter().filter(|row| row.kind == reference::A).count();
-            [rows.len(), a_rows, ticks(&rows)]
+            [
+                rows.len(),
+                a_rows,
+                ticks(&rows),
+                drive(&rows, input.numbers.d),
+            ]
         })
         .collect();
-    let cells = [0, 1, 2].map(|what| {
+    let cells = [0, 1, 2, 3].map(|what| {
         let all = counts.iter().map(|count| count[what]);
         let mean = all.clone().sum::<usize>() as f64 / counts.len() as f64;
         format!("{mean:.1} | {}", all.max().unwrap())
@@ -351,14 +376,15 @@ fn list_cells(inputs: &[Input]) -> String {
 }
 
 const LIST_COLUMNS: &str = "rows, mean | rows, worst | A rows, mean | A rows, worst \
-                            | ticks, mean | ticks, worst |\n\
-                            |---|---|---|---|---|---|---|---|";
+                            | ticks, mean | ticks, worst | drive, mean | drive, worst |\n\
+                            |---|---|---|---|---|---|---|---|---|---|";
 
 fn print_lists_of_random_tableaus() {
     println!("\n## Lists of random tableaus\n");
     println!(
         "The lists of the library for 100 random tableaus with few zeros, 40 for n = 16. Ticks: \
-         rows on separate qudits run at once.\n"
+         rows on separate qudits run at once. Drive: the sum of the powers' distances from zero, \
+         F's modulo 4, S's modulo 2d, the others' modulo d.\n"
     );
     println!("| n | d | {LIST_COLUMNS}");
     for n in [1, 2, 4, 8, MOST_QUDITS] {

@@ -126,9 +126,11 @@ struct clifford_answer {
  * Least multiplier.
  * Inputs d, a, b (residues, below d); output function return
  *
- * The value is the first m, counted from 0, with
- * gcd(a + m b, d) = gcd(gcd(a, b), d). One always exists below d. gcd(0, d) is
- * d, so a = b = 0 gives 0.
+ * The value is the m nearest zero with gcd(a + m b, d) = gcd(gcd(a, b), d), the
+ * first of 0, 1, -1, 2, -2 and on, written as a residue: d - 1 for -1. So
+ * "least" is the least distance from zero, and of m and -m the value is m where
+ * both will do. One always exists. gcd(0, d) is d, so a = b = 0 gives 0.
+ * d = 6, a = 2, b = 1 gives 5.
  *
  * Refusals: 1 dimension; 5 range: a or b is d or more.
  */

@@ -675,15 +675,15 @@ fn examples(host: &mut Host) {
     answers("c10, phase 2", columns(4, &[2, 1, 0, 0, 0, 1]), 0, None);
     let mut multiplier = Case::new(Name::LeastMultiplier, 6, 0, vec![], vec![]);
     (multiplier.numbers.a, multiplier.numbers.b) = (2, 1);
-    answers("c11", multiplier, 0, Some(3));
+    answers("c11", multiplier, 0, Some(5));
     println!("c1 to c12 hold");
 }
 
 // ------------------------------------------------------------ exhaustive parts
 
 /// The least multiplier for all a and b: for small d, for two primes and a
-/// power of two near the limit, and for 840 and 1,020, where it is as large as
-/// at any d.
+/// power of two near the limit, and for 840 and 1,020, where it is as far from
+/// zero as at any d.
 fn every_multiplier(host: &mut Host) {
     let large = [840, 1009, 1020, 1021, 1024];
     for d in (2..=24).chain(large) {

@@ -159,8 +159,11 @@ int main(void)
     old_bytes(tableau);
     parity_advice();
 
-    expect(answers(clifford_least_multiplier(6, 2, 1), 0, 3), "least multiplier");
-    expect(answers(clifford_least_multiplier(840, 2, 1), 0, 9), "least multiplier, a long search");
+    expect(answers(clifford_least_multiplier(6, 2, 1), 0, 5), "least multiplier, -1");
+    expect(answers(clifford_least_multiplier(840, 6, 1), 0, 5),
+           "least multiplier, 5 and -5 fit, no nearer one");
+    expect(answers(clifford_least_multiplier(840, 5, 1), 0, 836), "least multiplier, -4");
+    expect(answers(clifford_least_multiplier(2, 0, 1), 0, 1), "least multiplier, d / 2");
     expect(answers(clifford_least_multiplier(1009, 0, 1008), 0, 1),
            "least multiplier, the largest step");
     expect(answers(clifford_least_multiplier(6, 6, 1), CLIFFORD_RANGE, 0),

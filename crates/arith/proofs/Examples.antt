@@ -1,23 +1,35 @@
 -- Document 01's examples on numbers, by computing from the definitions.
 use mathlib.Core.Path.{_≡_, refl}
 use mathlib.Core.Bool.{true, false}
+use mathlib.Core.List.{[], _∷_}
 use Rattle.arith.specs.Gcd.{gcd}
-use Rattle.arith.specs.Units.{firstBelow, leastMultiplier, inverseOf, divides, quotient}
+use Rattle.arith.specs.Units.{firstBelow, candidate, leastMultiplier, inverseOf, divides, quotient}
+use Rattle.arith.specs.Bytes.{tab}
 use Rattle.arith.specs.Refusals.{dimensionOf, widthOf}
 
--- c11: d = 6, the least multiplier of 2 and 1 is 3
-pub c11 : leastMultiplier 6 2 1 ≡ 3
-unfolding leastMultiplier firstBelow gcd
+-- c11, as document 02's P6 has it: d = 6, the least multiplier of 2 and 1 is 5, which is −1
+pub c11 : leastMultiplier 6 2 1 ≡ 5
+unfolding leastMultiplier candidate firstBelow gcd
 c11 = refl
+
+-- the candidates in their order; for even d the last is d/2
+pub candidates : (tab (candidate 7) 7 ≡ 0 ∷ 1 ∷ 6 ∷ 2 ∷ 5 ∷ 3 ∷ 4 ∷ []) × (tab (candidate 6) 6 ≡ 0 ∷ 1 ∷ 5 ∷ 2 ∷ 4 ∷ 3 ∷ [])
+unfolding candidate tab
+candidates = (refl, refl)
+
+-- where 5 and −5 fit and nothing nearer, it is 5; −4 is written 836; for d = 2 it may be d/2
+pub nearest : (leastMultiplier 840 6 1 ≡ 5) × (leastMultiplier 840 5 1 ≡ 836) × (leastMultiplier 2 0 1 ≡ 1)
+unfolding leastMultiplier candidate firstBelow gcd
+nearest = (refl, refl, refl)
 
 -- gcd(0, d) = d and gcd(0, 0) = 0
 pub gcd-of-zero : (gcd 0 6 ≡ 6) × (gcd 0 0 ≡ 0)
 unfolding gcd
 gcd-of-zero = (refl, refl)
 
--- a = b = 0: every m fits, so the first is 0
+-- a = b = 0: every m fits, so it is 0
 pub least-of-zeros : leastMultiplier 6 0 0 ≡ 0
-unfolding leastMultiplier firstBelow gcd
+unfolding leastMultiplier candidate firstBelow gcd
 least-of-zeros = refl
 
 -- 7 is its own inverse modulo 12

@@ -12,7 +12,7 @@ pub record First (test : ℕ → Bool) (m : ℕ) : Type 0 where
   pub none-before : (j : ℕ) → j < m → T (not (test j))
 
 -- it is at most any number that passes; so there is at most one
-first-le : {test : ℕ → Bool} {m : ℕ} → First test m → (j : ℕ) → T (test j) → m ≤ j
+pub first-le : {test : ℕ → Bool} {m : ℕ} → First test m → (j : ℕ) → T (test j) → m ≤ j
 first-le {test} {m} h j t = omega (arith, earlier)
   where
     earlier : ¬ (j < m)

@@ -5,6 +5,7 @@ pub mod First
 pub mod Gcd
 pub mod Multiplier
 pub mod Pigeonhole
+pub mod Candidates
 pub mod Remainders
 pub mod Ring
 pub mod RingExamples

@@ -51,6 +51,11 @@ pub record Hit (g : ℕ → ℕ) (m y : ℕ) : Type 0 where
   pub below : at < m
   pub hits : g at ≡ y
 
+-- y is taken at one place below m, and at no other
+pub record Once (g : ℕ → ℕ) (m y : ℕ) : Type 0 where
+  pub hit : Hit g m y
+  pub only : (x : ℕ) → x < m → g x ≡ y → x ≡ hit .at
+
 data Look (g : ℕ → ℕ) (m y : ℕ) : Type 0 where
   found : Hit g m y → Look g m y
   missed : ((x : ℕ) → x < m → g x ≢ y) → Look g m y
@@ -73,3 +78,6 @@ onto (suc m) g h a y l = go (look g (suc m) y)
     go : Look g (suc m) y → Hit g (suc m) y
     go (found r) = r
     go (missed ne) = absurd (no-room m (λ x. squeeze y (g x)) (λ x k. squeezed-below (squeezed y (g x)) (ne x k) (h x k) l) (squeeze-apart y a ne))
+
+pub once : (m : ℕ) (g : ℕ → ℕ) → ((x : ℕ) → x < m → g x < m) → Apart g m → (y : ℕ) → y < m → Once g m y
+once m g h a y l = let z = onto m g h a y l in record { hit = z; only = λ x k e. a .apart x (z .at) k (z .below) (e ∙ sym (z .hits)) }

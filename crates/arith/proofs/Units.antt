@@ -2,19 +2,21 @@
 use mathlib.Core.Path.{_≡_, refl, sym, _∙_, ap, ap₂, subst}
 use mathlib.Core.Bool.{Bool, true, false, not, cond}
 use mathlib.Core.Logic.{_≢_}
-use Prim.Native.Nat.{ℕ, zero, suc, _+_, _*_, _%_, _≤_, _<_}
+use Prim.Native.Nat.{ℕ, zero, suc, _+_, _*_, _-_, _%_, _≤_, _<_}
 use native.Mathlib.Nat.{mul-comm, mul-one, mod-eq-of-lt, mod-self}
 use native.Mathlib.Omega.{arith}
 use lib.Dec.{T, T-not, eqb, eqb→eq, eqb-refl}
+use borrow.Author.Tests.{eq-eqb}
 use Rattle.arith.proofs.Cases.{by-less}
-use Rattle.arith.proofs.Cong.{Cong, cong-eq, cong-trans, cong-of-eq, cong-refl, cong-sym, cong-add, cong-mul, cong-mod}
+use Rattle.arith.proofs.Cong.{Cong, cong-eq, cong-trans, cong-of-eq, cong-refl, cong-sym, cong-add, cong-mul, cong-mod, cong-intro}
 use Rattle.arith.proofs.Divides.{dvd-refl, dvd-zero, dvd-one, dvd-mul-l, dvd-resp}
 use Rattle.arith.proofs.Remainders.{mod-of}
 use Rattle.arith.specs.Gcd.{gcd}
 use Rattle.arith.proofs.Gcd.{gcd-left, gcd-right, gcd-unique, gcd-cong, both-cong, inverse, gcd-zero-left, inverse-unique}
+use Rattle.arith.proofs.Candidates.{candidate-zero, candidate-once, first-nearest, nearest-unique}
 use Rattle.arith.proofs.Multiplier.{multiplier}
-use Rattle.arith.proofs.First.{First, none-more, first-unique}
-use Rattle.arith.specs.Units.{fits, firstFrom, firstBelow, inverseOf, leastMultiplier}
+use Rattle.arith.proofs.First.{First, none-more, first-unique, told-true}
+use Rattle.arith.specs.Units.{fits, firstFrom, firstBelow, inverseOf, candidate, leastMultiplier, Nearest}
 
 -- m is the first number that passes, and is below the bound
 pub record FirstUnder (test : ℕ → Bool) (bound m : ℕ) : Type 0 where
@@ -128,38 +130,58 @@ inverse-twice d v l ne e =
     full x f g = let z : d % d ≡ 1 = ap (λ (y : ℕ). y % d) (sym g) ∙ f in omega (arith, mod-self d)
 
 -- ---- the least multiplier
+-- whether the candidate at each place fits
+abbrev pub fitsAt : ℕ → ℕ → ℕ → ℕ → Bool
+fitsAt d a b k = fits a b d (candidate d k)
+
 module _ (d a b : ℕ) (pos : 0 < d) where
-  -- it is the first number that fits, and below d
-  pub least-found : FirstUnder (fits a b d) d (leastMultiplier d a b)
-  unfolding leastMultiplier
-  least-found =
+  -- some candidate fits, since some residue does; the first has its place below d
+  pub place-found : FirstUnder (fitsAt d a b) d (firstBelow (fitsAt d a b) d)
+  place-found =
       let z = multiplier a b d pos in
-      firstBelow-law (fits a b d) d (z .m) (z .below) (subst (λ (x : ℕ). T (eqb x (gcd (gcd a b) d))) (sym (z .eq)) (eqb-refl (gcd (gcd a b) d)))
+      let c = candidate-once d (z .m) (z .below) .hit in
+      firstBelow-law (fitsAt d a b) d (c .at) (c .below) (subst (λ (m : ℕ). T (fits a b d m)) (sym (c .hits)) (subst (λ (x : ℕ). T (eqb x (gcd (gcd a b) d))) (sym (z .eq)) (eqb-refl (gcd (gcd a b) d))))
+
+  -- it fits, is below d and the nearest to zero that does; of two as near it is the positive one if that fits
+  pub least-nearest : Nearest (fits a b d) d (leastMultiplier d a b)
+  unfolding leastMultiplier
+  least-nearest = first-nearest (fits a b d) d (firstBelow (fitsAt d a b) d) (place-found .below) (place-found .first)
 
   pub least-below : leastMultiplier d a b < d
-  least-below = least-found .below
+  least-below = least-nearest .below
 
   pub least-gcd : gcd (a + leastMultiplier d a b * b) d ≡ gcd (gcd a b) d
-  least-gcd = eqb→eq (gcd (a + leastMultiplier d a b * b) d) (gcd (gcd a b) d) (least-found .first .passes)
+  least-gcd = eqb→eq (gcd (a + leastMultiplier d a b * b) d) (gcd (gcd a b) d) (least-nearest .passes)
 
-  -- the first number that fits is this one
-  pub least-unique : (m : ℕ) → First (fits a b d) m → m ≡ leastMultiplier d a b
-  least-unique m f = first-unique f (least-found .first)
+  -- no other residue is so
+  pub least-only : (m : ℕ) → Nearest (fits a b d) d m → m ≡ leastMultiplier d a b
+  least-only m h = nearest-unique h least-nearest
 
--- where b is 0, the first number fits
+  -- the first candidate that fits is this one
+  pub least-at : (k : ℕ) → First (fitsAt d a b) k → candidate d k ≡ leastMultiplier d a b
+  unfolding leastMultiplier
+  least-at k f = ap (candidate d) (first-unique f (place-found .first))
+
+  -- what the loop of a program needs: while none of the first k candidates fits, k is below d
+  pub still-below : (k : ℕ) → ((j : ℕ) → j < k → T (not (fitsAt d a b j))) → k < d
+  still-below k h = omega (arith, past, place-found .below)
+    where
+      past : ¬ (firstBelow (fitsAt d a b) d < k)
+      past l = T-not (fitsAt d a b (firstBelow (fitsAt d a b) d)) (h (firstBelow (fitsAt d a b) d) l) (place-found .first .passes)
+
+-- whether 0 fits
+pub zero-fits : (d a b : ℕ) → eqb (gcd a d) (gcd (gcd a b) d) ≡ fitsAt d a b 0
+zero-fits d a b = let z : a ≡ a + 0 * b = omega arith in ap (λ (x : ℕ). eqb (gcd x d) (gcd (gcd a b) d)) z ∙ ap (fits a b d) (sym (candidate-zero d))
+
+-- where 0 fits, it is 0; so where b is 0
+pub least-fits-zero : (d a b : ℕ) → 0 < d → gcd a d ≡ gcd (gcd a b) d → leastMultiplier d a b ≡ 0
+least-fits-zero d a b p e = sym (least-at d a b p 0 (record { passes = told-true (zero-fits d a b) (eq-eqb _ _ e); none-before = λ j l. absurd (omega arith) })) ∙ candidate-zero d
+
 pub least-zero : (d a b : ℕ) → 0 < d → b ≡ 0 → leastMultiplier d a b ≡ 0
-unfolding leastMultiplier
-least-zero d a b p e = first-zero (fits a b d) d p (subst (λ (x : ℕ). T (eqb (gcd x d) (gcd (gcd a b) d))) (omega arith) (subst (λ (x : ℕ). T (eqb (gcd a d) (gcd x d))) (sym same) (eqb-refl (gcd a d))))
+least-zero d a b p e = least-fits-zero d a b p (sym (ap (λ (x : ℕ). gcd x d) same))
   where
     same : gcd a b ≡ a
     same = ap (gcd a) e ∙ gcd-unique (dvd-refl a) (dvd-zero a) (λ c h k. h)
-
--- what the loop of a program needs: while none of the numbers below k fits, k is below d
-pub still-below : (a b d k : ℕ) → 0 < d → ((j : ℕ) → j < k → T (not (fits a b d j))) → k < d
-still-below a b d k p h = let z = least-found d a b p in omega (arith, past (z .first), z .below)
-  where
-    past : First (fits a b d) (leastMultiplier d a b) → ¬ (leastMultiplier d a b < k)
-    past f l = T-not (fits a b d (leastMultiplier d a b)) (h (leastMultiplier d a b) l) (f .passes)
 
 -- ---- the search for the least multiplier
 -- a and b may be brought below d: the sums are the same modulo d, so the same numbers fit
@@ -171,12 +193,21 @@ fits-reduced d a b m = ap₂ eqb (gcd-cong (sum-reduced d a b m)) (both-cong (co
 
 pub least-reduced : (d a b : ℕ) → 0 < d → leastMultiplier d (a % d) (b % d) ≡ leastMultiplier d a b
 least-reduced d a b p =
-    let f = least-found d (a % d) (b % d) p .first in
-    least-unique d a b p (leastMultiplier d (a % d) (b % d)) (record {
-      passes = subst T (fits-reduced d a b (leastMultiplier d (a % d) (b % d))) (f .passes);
-      none-before = λ j l. subst (λ (x : Bool). T (not x)) (fits-reduced d a b j) (f .none-before j l);
+    let h = least-nearest d (a % d) (b % d) p in
+    least-only d a b p (leastMultiplier d (a % d) (b % d)) (record {
+      passes = subst T (fits-reduced d a b (leastMultiplier d (a % d) (b % d))) (h .passes);
+      below = h .below;
+      nearest = λ r l t. h .nearest r l (subst T (sym (fits-reduced d a b r)) t);
+      positive = λ r l t e. h .positive r l (subst T (sym (fits-reduced d a b r)) t) e;
     })
 
 -- a + m·b is kept modulo d: what is below d and congruent to the number kept with b added is the one for the next m
 pub kept-next : (d a b m x r : ℕ) → x ≡ (a + m * b) % d → Cong d r (x + b) → r < d → r ≡ (a + (m + 1) * b) % d
 kept-next d a b m x r e h l = sym (mod-of (a + (m + 1) * b) (cong-sym (cong-trans h (rw e (cong-trans (cong-add (cong-mod (a + m * b)) (cong-refl b)) (cong-of-eq (omega arith)))))) l)
+
+-- a − m·b is kept by the same step, with d − b for b: what it keeps for m is the sum for −m, written d − m
+pub sum-down : (d a b m : ℕ) → b ≤ d → m ≤ d → Cong d (a + m * (d - b)) (a + (d - m) * b)
+sum-down d a b m l k = over (d - b) (d - m) (omega arith) (omega arith)
+  where
+    over : (e f : ℕ) → b + e ≡ d → m + f ≡ d → Cong d (a + m * e) (a + f * b)
+    over e f x y = cong-intro b m (omega (arith, ap (λ (z : ℕ). b * z) (sym y), ap (λ (z : ℕ). m * z) (sym x)))

@@ -33,7 +33,7 @@ fn multiplier_check(d: u16, a: u16, b: u16) -> Check
     crate::checks::range(d, b)
 }
 
-// The least multiplier of a and b.
+// The least multiplier of a and b: of 0, 1, −1, 2, −2 and on the first that fits, as a residue.
 pub fn least_multiplier(d: u16, a: u16, b: u16) -> Answer
     ensures { λ r. ⌜ Answered (multiplierRefusal d a b) (leastMultiplier d a b) r ⌝ }
 {

@@ -12,7 +12,7 @@ ghost use Rattle.synthesis.specs.Demand3.{Synthesised};
 ghost use Rattle.synthesis.specs.Chosen.{Chosen};
 ghost use Rattle.tableau.specs.Calls.{tableauRefusal, tableauAnswer, imageRefusal, imageAnswer, composeRefusal, composeAnswer, inverseRefusal, inverseAnswer};
 
-// The least multiplier of a and b.
+// The least multiplier of a and b: of 0, 1, −1, 2, −2 and on the first that fits, as a residue.
 #[no_mangle]
 pub extern "C" fn clifford_least_multiplier(d: u16, a: u16, b: u16) -> Answer
     ensures { λ r. ⌜ Answered (multiplierRefusal d a b) (leastMultiplier d a b) r ⌝ }

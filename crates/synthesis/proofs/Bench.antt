@@ -5,7 +5,7 @@ use Prim.Native.Nat.{ℕ}
 use Rattle.arith.specs.Residues.{neg}
 use Rattle.arith.specs.Refusals.{pairingOf, parityOf}
 use Rattle.arith.specs.Gcd.{gcd, euclid}
-use Rattle.arith.specs.Units.{firstBelow, inverseOf, leastMultiplier, divides, quotient}
+use Rattle.arith.specs.Units.{firstBelow, inverseOf, candidate, leastMultiplier, divides, quotient}
 use Rattle.pauli.specs.Pauli.{Pauli, product, power, unitX, unitZ}
 use Rattle.gates.specs.Row.{F, S, A, Z, apply}
 use Rattle.tableau.specs.Tableau.{tableauOf}
@@ -57,12 +57,12 @@ abbrev pub c10 : Type 0
 c10 = (soundnessOf 4 1 (columns (pauli 1 1 0) (pauli 0 0 1)) ≡ 8) × (soundnessOf 4 1 (columns (pauli 2 1 0) (pauli 0 0 1)) ≡ 0)
 
 abbrev pub c11 : Type 0
-c11 = leastMultiplier 6 2 1 ≡ 3
+c11 = leastMultiplier 6 2 1 ≡ 5
 
 -- the same on both unit Paulis, hence on every Pauli
 abbrev pub c12 : Type 0
 c12 = tableauOf 4 1 (S 0 4 ∷ []) ≡ tableauOf 4 1 (Z 0 2 ∷ [])
 
 pub bench : c1 × c2 × c3 × c4 × c5 × c6 × c7 × c8 × c9 × c10 × c11 × c12
-unfolding synthesised reduce stage secondColumn partnerTurned partnerStraightened firstColumn gathered straighten nearPower divides quotient leastMultiplier inverseOf firstBelow gcd euclid neg pairingOf parityOf
+unfolding synthesised reduce stage secondColumn partnerTurned partnerStraightened firstColumn gathered straighten nearPower divides quotient leastMultiplier candidate inverseOf firstBelow gcd euclid neg pairingOf parityOf
 bench = (refl, refl, refl, refl, refl, refl, (refl, refl), (refl, refl, refl, refl), refl, (refl, refl), refl, refl)

@@ -3,7 +3,7 @@ use mathlib.Core.Path.{_≡_, refl}
 use mathlib.Core.List.{List, [], _∷_}
 use Rattle.arith.specs.Residues.{neg}
 use Rattle.arith.specs.Gcd.{gcd, euclid}
-use Rattle.arith.specs.Units.{leastMultiplier, inverseOf, firstBelow, divides, quotient}
+use Rattle.arith.specs.Units.{candidate, leastMultiplier, inverseOf, firstBelow, divides, quotient}
 use Rattle.pauli.specs.Pauli.{Pauli}
 use Rattle.gates.specs.Row.{F, S, A, M, X, Z}
 use Rattle.tableau.specs.Tableau.{tableauOf, units}
@@ -22,7 +22,7 @@ unfolding neg
 whole-tableau = refl
 
 whole-rows : synthesised 4 2 whole ≡ Z 1 3 ∷ X 0 3 ∷ F 0 1 ∷ A 0 1 1 ∷ F 0 3 ∷ F 0 1 ∷ []
-unfolding synthesised reduce stage secondColumn partnerTurned partnerStraightened firstColumn gathered straighten nearPower divides quotient leastMultiplier inverseOf firstBelow gcd euclid neg
+unfolding synthesised reduce stage secondColumn partnerTurned partnerStraightened firstColumn gathered straighten nearPower divides quotient leastMultiplier candidate inverseOf firstBelow gcd euclid neg
 whole-rows = refl
 
 -- a row of each kind comes back, two A rows to qudit 0 come back, and the identity is the empty list
@@ -37,7 +37,7 @@ come-back :
     × (synthesised 3 2 (tableauOf 3 2 (X 1 2 ∷ [])) ≡ X 1 2 ∷ [])
     × (synthesised 3 2 (tableauOf 3 2 (Z 1 2 ∷ [])) ≡ Z 1 2 ∷ [])
     × (synthesised 6 2 (units 2) ≡ [])
-unfolding synthesised reduce stage secondColumn partnerTurned partnerStraightened firstColumn gathered straighten nearPower divides quotient leastMultiplier inverseOf firstBelow gcd euclid neg
+unfolding synthesised reduce stage secondColumn partnerTurned partnerStraightened firstColumn gathered straighten nearPower divides quotient leastMultiplier candidate inverseOf firstBelow gcd euclid neg
 come-back = (refl, refl, refl, refl, refl, refl, refl, refl, refl, refl)
 
 -- d = 6: no entry is a unit
@@ -83,5 +83,5 @@ rows :
     × (synthesised 4 3 mixed-four ≡ X 2 3 ∷ Z 1 3 ∷ Z 0 3 ∷ F 2 1 ∷ S 2 7 ∷ F 2 3 ∷ S 2 2 ∷ F 2 1 ∷ F 1 1 ∷ S 1 1 ∷ A 1 2 3 ∷ F 1 3 ∷ S 2 2 ∷ F 2 1 ∷ A 1 2 1 ∷ S 2 2 ∷ F 2 3 ∷ F 0 1 ∷ S 0 1 ∷ A 0 2 2 ∷ A 0 1 1 ∷ F 0 3 ∷ A 0 2 1 ∷ A 0 1 2 ∷ M 0 3 ∷ S 2 1 ∷ S 1 7 ∷ S 0 2 ∷ [])
     × (synthesised 12 2 mixed-twelve ≡ X 1 11 ∷ X 0 11 ∷ Z 0 10 ∷ F 1 1 ∷ S 1 21 ∷ F 1 3 ∷ S 1 6 ∷ F 0 1 ∷ S 0 1 ∷ A 0 1 7 ∷ F 0 3 ∷ S 1 20 ∷ F 1 3 ∷ S 1 23 ∷ A 0 1 1 ∷ M 0 5 ∷ S 1 20 ∷ F 1 3 ∷ S 1 23 ∷ S 0 3 ∷ [])
     × (synthesised 6 3 partly-none ≡ X 2 4 ∷ Z 2 4 ∷ X 1 4 ∷ Z 1 4 ∷ X 0 5 ∷ F 2 1 ∷ F 1 1 ∷ S 1 11 ∷ F 1 3 ∷ S 1 11 ∷ F 0 1 ∷ A 0 2 4 ∷ A 0 1 4 ∷ F 0 3 ∷ F 2 3 ∷ F 0 1 ∷ [])
-unfolding synthesised reduce stage secondColumn partnerTurned partnerStraightened firstColumn gathered straighten nearPower divides quotient leastMultiplier inverseOf firstBelow gcd euclid neg
+unfolding synthesised reduce stage secondColumn partnerTurned partnerStraightened firstColumn gathered straighten nearPower divides quotient leastMultiplier candidate inverseOf firstBelow gcd euclid neg
 rows = (refl, refl, refl, refl, refl)

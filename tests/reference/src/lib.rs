@@ -55,14 +55,24 @@ pub fn quotient(a: i64, b: i64, d: i64) -> i64 {
     (b / g * u).rem_euclid(d / g)
 }
 
-/// The first m, counted from 0, with gcd(a + m·b, d) = gcd(gcd(a, b), d).
+/// The m nearest zero with gcd(a + m·b, d) = gcd(gcd(a, b), d), the first of 0,
+/// 1, −1, 2, −2 and on, as a residue.
 pub fn least_multiplier(a: i64, b: i64, d: i64) -> i64 {
     let wanted = gcd(gcd(a, b), d);
-    let mut m = 0;
-    while gcd(a + m * b, d) != wanted {
+    let fits = |m: i64| gcd((a + m * b).abs(), d) == wanted;
+    if fits(0) {
+        return 0;
+    }
+    let mut m = 1;
+    loop {
+        if fits(m) {
+            return m;
+        }
+        if fits(-m) {
+            return d - m;
+        }
         m += 1;
     }
-    m
 }
 
 fn dot(a: &[i64], b: &[i64]) -> i64 {

@@ -87,12 +87,12 @@ fn examples_c6_to_c12() {
         calls::PARITY
     );
     assert_eq!(synthesis_number(&columns(2, 1, 0, 0, 0, 1), 4), 0);
-    assert_eq!(least_multiplier(2, 1, 6), 3);
+    assert_eq!(least_multiplier(2, 1, 6), 5);
     assert_eq!(
         calls::least_multiplier(6, 2, 1),
         calls::Answer {
             number: 0,
-            value: 3
+            value: 5
         }
     );
     assert_eq!(
@@ -262,8 +262,10 @@ fn text_refusals() {
 #[test]
 fn arithmetic_by_search() {
     assert_eq!((gcd(0, 6), gcd(6, 0), gcd(0, 0)), (6, 6, 0));
-    assert_eq!(least_multiplier(2, 1, 840), 9);
+    assert_eq!(least_multiplier(6, 1, 840), 5);
+    assert_eq!(least_multiplier(5, 1, 840), 836);
     assert_eq!(least_multiplier(0, 1008, 1009), 1);
+    assert_eq!(least_multiplier(0, 1, 2), 1);
     for d in 2..=60 {
         for q in 0..d {
             let found = (0..d).find(|r| q * r % d == 1);
@@ -272,7 +274,11 @@ fn arithmetic_by_search() {
                 assert_eq!(inverse_of_unit(q, d), r);
             }
             for b in 0..d {
-                assert!(least_multiplier(q, b, d) < d);
+                // of the residues that fit, the nearest to zero; of two, the positive one
+                let nearest = (0..d)
+                    .filter(|m| gcd((q + m * b) % d, d) == gcd(gcd(q, b), d))
+                    .min_by_key(|&m| (m.min(d - m), m));
+                assert_eq!(Some(least_multiplier(q, b, d)), nearest);
                 let found = (0..d).find(|c| (c * q - b) % d == 0);
                 assert_eq!(b % gcd(q, d) == 0, found.is_some());
                 if let Some(c) = found {
