@@ -15,6 +15,8 @@ use std::hint::black_box;
 /// Different inputs for each line of the table, used in turn.
 const INPUTS: usize = 16;
 const LIST_ROWS: usize = 64;
+const MOST_QUDITS: u16 = 16;
+const DIMENSIONS: [u16; 3] = [2, 6, 1024];
 const ROUNDS: u32 = 15;
 
 struct Input {
@@ -42,6 +44,20 @@ fn input(name: Name, d: u16, n: u16, random: &mut Random) -> Input {
         numbers: Numbers { d, n, a, b },
         first,
         second,
+    }
+}
+
+/// Two Paulis that touch no qudit in common: one touches some, the other all the
+/// others.
+fn disjoint_paulis(name: Name, d: u16, n: u16, random: &mut Random) -> Input {
+    let (dim, wide) = (d as i64, n as usize);
+    let word = random.below(1 << n);
+    let mut on = |word| calls::bytes_of_pauli(&random.pauli_on(word, dim, wide));
+    Input {
+        name,
+        numbers: Numbers { d, n, a: 0, b: 0 },
+        first: on(word),
+        second: on(!word),
     }
 }
 
@@ -172,54 +188,65 @@ fn stack_used(input: &Input, out: &mut [u8]) -> usize {
 
 // ---------------------------------------------------------------------- calls
 
+type Draw = fn(Name, u16, u16, &mut Random) -> Input;
+
+/// A line of the table for calls with drawn inputs.
+fn print_line(what: &str, name: Name, d: u16, n: u16, draw: Draw, time: f64) {
+    let mut random = Random::new(1, (d as u64) << 16 | n as u64);
+    let inputs: Vec<Input> = (0..INPUTS).map(|_| draw(name, d, n, &mut random)).collect();
+    let mut out = vec![0; name.room(n as usize)];
+    let (own, other) = both(&inputs, &mut out, time);
+    let stack = inputs
+        .iter()
+        .map(|input| stack_used(input, &mut out))
+        .max()
+        .unwrap();
+    let rows = if name == Name::Synthesis {
+        let counts: Vec<usize> = inputs
+            .iter()
+            .map(|input| call_library(input, &mut out).value as usize)
+            .collect();
+        let mean = counts.iter().sum::<usize>() as f64 / counts.len() as f64;
+        format!("{mean:.1} | {}", counts.iter().max().unwrap())
+    } else {
+        "- | -".into()
+    };
+    let width = if name == Name::LeastMultiplier {
+        "-".into()
+    } else {
+        n.to_string()
+    };
+    println!(
+        "| {what} | {width} | {d} | {own:.0} | {other:.0} | {:.2} | {stack} | {rows} |",
+        own / other
+    );
+}
+
 fn print_calls(milliseconds: u32) {
     println!(
-        "Lists have {LIST_ROWS} rows, tableaus few zeros. Outputs are not cleared between calls. \
-         Both sides are built for release; best of {ROUNDS} rounds of at least {milliseconds} ms \
-         of processor time.\n"
+        "Lists have {LIST_ROWS} rows, tableaus few zeros. Disjoint Paulis touch no qudit in \
+         common. Outputs are not cleared between calls. Both sides are built for release; best of \
+         {ROUNDS} rounds of at least {milliseconds} ms of processor time.\n"
     );
     println!(
         "| call | n | d | library, calls/s | reference, calls/s | ratio | stack, bytes \
          | rows, mean | rows, worst |"
     );
     println!("|---|---|---|---|---|---|---|---|---|");
+    let time = milliseconds as f64 / 1000.0;
     for name in NAMES {
-        for n in [1, 4, 16] {
+        for n in [1, 4, MOST_QUDITS] {
             if name == Name::LeastMultiplier && n > 1 {
                 continue; // it takes no n
             }
-            for d in [2, 6, 1024] {
-                let mut random = Random::new(1, (d as u64) << 16 | n as u64);
-                let inputs: Vec<Input> = (0..INPUTS)
-                    .map(|_| input(name, d, n, &mut random))
-                    .collect();
-                let mut out = vec![0; name.room(n as usize)];
-                let (own, other) = both(&inputs, &mut out, milliseconds as f64 / 1000.0);
-                let stack = inputs
-                    .iter()
-                    .map(|input| stack_used(input, &mut out))
-                    .max()
-                    .unwrap();
-                let rows = if name == Name::Synthesis {
-                    let counts: Vec<usize> = inputs
-                        .iter()
-                        .map(|input| call_library(input, &mut out).value as usize)
-                        .collect();
-                    let mean = counts.iter().sum::<usize>() as f64 / counts.len() as f64;
-                    format!("{mean:.1} | {}", counts.iter().max().unwrap())
-                } else {
-                    "- | -".into()
-                };
-                let width = if name == Name::LeastMultiplier {
-                    "-".into()
-                } else {
-                    n.to_string()
-                };
-                println!(
-                    "| {} | {width} | {d} | {own:.0} | {other:.0} | {:.2} | {stack} | {rows} |",
-                    name.text(),
-                    own / other
-                );
+            for d in DIMENSIONS {
+                print_line(name.text(), name, d, n, input, time);
+            }
+        }
+        if name == Name::Commutation {
+            let what = format!("{}, disjoint", name.text());
+            for d in DIMENSIONS {
+                print_line(&what, name, d, MOST_QUDITS, disjoint_paulis, time);
             }
         }
     }
@@ -290,7 +317,6 @@ fn print_longest_searches(time: f64) {
 
 const RANDOM_DIMENSIONS: [u16; 6] = [2, 3, 6, 97, 840, 1024];
 const SPARSE_DIMENSIONS: [u16; 4] = [2, 6, 97, 1024];
-const MOST_QUDITS: u16 = 16;
 const SINGLE_ROWS: usize = 300;
 const SHORT_LISTS: usize = 200;
 const SHORT_LIST_ROWS: usize = 10;

@@ -58,7 +58,7 @@
  *
  * Each call gives a number: 0 when it did what was asked, else the first
  * refusal of the list below that applies, over all inputs of the call. A
- * refusal writes no byte of any output and gives 0 as value.
+ * refusal writes no byte of any output and gives 0 as every value.
  */
 
 #ifndef CLIFFORD_H
@@ -179,6 +179,28 @@ uint16_t clifford_power(uint16_t d, uint16_t n,
 struct clifford_answer clifford_commutation(uint16_t d, uint16_t n,
                                             const uint8_t *p, size_t p_len,
                                             const uint8_t *q, size_t q_len);
+
+/* A number, and two values that are 0 on refusal. The call below has the same
+   name, so C++ too has to write struct before it. */
+struct clifford_support {
+    uint16_t number;
+    uint16_t word;
+    uint16_t touched;
+};
+
+/*
+ * Support of a Pauli.
+ * Inputs d, n, p[2(1 + 2n)]; output function return
+ *
+ * Qudit i is touched when vi or wi isn't 0; the phase makes no difference. In
+ * word bit i - 1, which counts 2^(i - 1), is set exactly when qudit i is
+ * touched, and no other bit is set; touched is the number of qudits touched.
+ * d = 6, n = 3, v = 2, 0, 0 and w = 0, 0, 3 gives word 5 and touched 2.
+ *
+ * Refusals: 1 dimension; 2 width; 3 length of p; 5 range: a number of p.
+ */
+struct clifford_support clifford_support(uint16_t d, uint16_t n,
+                                         const uint8_t *p, size_t p_len);
 
 /*
  * A list run on a Pauli.

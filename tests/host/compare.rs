@@ -1,11 +1,14 @@
 //! Calls the library and the reference with the same inputs and compares
-//! number, value and every byte. The list of synthesis is free, so it is
+//! number, values and every byte. The list of synthesis is free, so it is
 //! judged by what it does instead, and by what is proved of its rows.
 //!
 //! CALLS is the number of seeded calls, SEED their seed. A difference prints
 //! the call and both answers; ONLY=i makes the i-th seeded call alone.
 
+mod touched;
+
 use library::{library, reference as reference_call, Layout, Lent, Name, Numbers, NAMES};
+use library::{library_support, reference_support};
 use reference::calls::{self, Answer};
 use reference::random::{Random, DIMENSIONS};
 use reference::{Pauli, Row};
@@ -40,6 +43,20 @@ impl Case {
             room,
             fill: 0,
         }
+    }
+
+    /// A case with one Pauli, or two.
+    fn of_paulis(name: Name, d: u16, n: u16, paulis: &[&Pauli]) -> Case {
+        let mut lent = paulis.iter().map(|p| calls::bytes_of_pauli(p));
+        let first = lent.next().unwrap_or_default();
+        let second = lent.next().unwrap_or_default();
+        Case::new(name, d, n, first, second)
+    }
+
+    /// The same with a drawn seed.
+    fn filled(mut self, random: &mut Random) -> Case {
+        self.fill = random.next();
+        self
     }
 
     fn describe(&self) -> String {
@@ -218,9 +235,12 @@ impl Host {
         };
 
         UNDER_WAY.store(case as *const Case as *mut Case, Ordering::SeqCst);
-        let given = unsafe {
+        let (given, touched) = unsafe {
             alarm(30);
-            library(case.name, case.numbers, first, second, out)
+            match case.name {
+                Name::Support => library_support(case.numbers, first),
+                name => (library(name, case.numbers, first, second, out), 0),
+            }
         };
         UNDER_WAY.store(std::ptr::null_mut(), Ordering::SeqCst);
         self.calls += 1;
@@ -228,18 +248,19 @@ impl Host {
         let window = bytes_at(window);
         let left = &before[GUARD..GUARD + case.room];
         let mut wanted_out = left.to_vec();
-        let wanted = reference_call(
-            case.name,
-            case.numbers,
-            &case.first,
-            &case.second,
-            &mut wanted_out,
-        );
+        let (wanted, wanted_touched) = match case.name {
+            Name::Support => reference_support(case.numbers, &case.first),
+            name => {
+                let (first, second) = (&case.first, &case.second);
+                let wanted = reference_call(name, case.numbers, first, second, &mut wanted_out);
+                (wanted, 0)
+            }
+        };
         let given_out = &window[GUARD..GUARD + case.room];
         let report = |what: &str| {
             format!(
-                "{what}\n{}\nlibrary   number={} value={} output={}\n\
-                 reference number={} value={} output={}",
+                "{what}\n{}\nlibrary   number={} value={} touched={touched} output={}\n\
+                 reference number={} value={} touched={wanted_touched} output={}",
                 case.describe(),
                 given.number,
                 given.value,
@@ -267,7 +288,7 @@ impl Host {
             judge_list(case, given.value as usize, left, given_out, &mut random)
                 .map_err(|what| report(&what))?;
         } else {
-            if given.value != wanted.value {
+            if (given.value, touched) != (wanted.value, wanted_touched) {
                 return Err(report("the values differ"));
             }
             if given_out != wanted_out {
@@ -342,9 +363,18 @@ fn width(random: &mut Random) -> u16 {
     }
 }
 
+/// One in three touches few qudits, or none.
+fn any_pauli(d: i64, n: usize, random: &mut Random) -> Pauli {
+    if random.one_in(3) {
+        random.sparse_pauli(d, n)
+    } else {
+        random.pauli(d, n)
+    }
+}
+
 fn valid_input(layout: Layout, d: i64, n: usize, random: &mut Random) -> Vec<u8> {
     match layout {
-        Layout::Pauli => calls::bytes_of_pauli(&random.pauli(d, n)),
+        Layout::Pauli => calls::bytes_of_pauli(&any_pauli(d, n, random)),
         Layout::Tableau => {
             let tableau = match random.below(6) {
                 0 => random.dense_tableau(d, n),
@@ -842,6 +872,11 @@ fn main() {
     every_multiplier(&mut host);
     every_tableau_of_one_qudit(&mut host);
     every_tableau_of_two_qubits(&mut host);
+    touched::every_support_word(&mut host, seed);
+    touched::support_fault_by_fault(&mut host, seed);
+    touched::support_number_by_number(&mut host, seed);
+    touched::support_of_results(&mut host, seed);
+    touched::commutation_of_few(&mut host, seed);
     rows_used(&mut host, seed);
 
     host.seen = [[0; 10]; NAMES.len()];

@@ -63,6 +63,12 @@ static int answers(struct clifford_answer answer, uint16_t number, uint16_t valu
     return answer.number == number && answer.value == value;
 }
 
+static int supports(struct clifford_support answer, uint16_t number, uint16_t word,
+                    uint16_t touched)
+{
+    return answer.number == number && answer.word == word && answer.touched == touched;
+}
+
 /* d = 2, n = 2, rows A,2,1,1 then S,1,0,1: the inverse composed in either order
    gives the units. The closed formula of the source paper fails here. */
 static void undo_both_ways(const uint8_t *units)
@@ -138,6 +144,9 @@ int main(void)
     /* F: v1, w1 = 1, 3 become 1, 1 with phase 7 - 6 = 1. A: v2 = 3. Z: phase
        1 + 2*3*3 = 19, so 3. */
     const uint16_t image_numbers[] = {3, 1, 3, 1, 0};
+    /* w of qudit 2 alone, and a phase alone. */
+    const uint16_t sparse_numbers[] = {7, 0, 0, 0, 2};
+    const uint16_t phase_numbers[] = {7, 0, 0, 0, 0};
 
     const size_t pauli_len = CLIFFORD_PAULI_BYTES(2);
     const size_t tableau_len = CLIFFORD_TABLEAU_BYTES(2);
@@ -152,6 +161,8 @@ int main(void)
     uint8_t *product = lend(product_numbers, 5);
     uint8_t *power = lend(power_numbers, 5);
     uint8_t *image = lend(image_numbers, 5);
+    uint8_t *sparse = lend(sparse_numbers, 5);
+    uint8_t *phase = lend(phase_numbers, 5);
     uint8_t undone[CLIFFORD_TABLEAU_BYTES(2)];
     uint8_t *out;
 
@@ -188,6 +199,14 @@ int main(void)
     expect(answers(clifford_commutation(4, 2, p, pauli_len, q, pauli_len), 0, 1), "commutation");
     expect(answers(clifford_commutation(4, 17, p, pauli_len, q, pauli_len), CLIFFORD_WIDTH, 0),
            "commutation, a refusal");
+
+    expect(supports(clifford_support(4, 2, p, pauli_len), 0, 3, 2), "support");
+    expect(supports(clifford_support(4, 2, sparse, pauli_len), 0, 2, 1), "support, one qudit");
+    expect(supports(clifford_support(4, 2, phase, pauli_len), 0, 0, 0), "support, a phase alone");
+    expect(supports(clifford_support(2, 2, sparse, pauli_len), CLIFFORD_RANGE, 0, 0),
+           "support, a refusal");
+    expect(supports(clifford_support(4, 2, NULL, 0), CLIFFORD_LENGTH, 0, 0),
+           "support of nothing, a refusal");
 
     out = output(pauli_len);
     expect(clifford_run(4, 2, list, list_len, p, pauli_len, out, pauli_len) == 0, "run");
@@ -271,8 +290,10 @@ int main(void)
     free(product);
     free(power);
     free(image);
+    free(sparse);
+    free(phase);
     free(block);
     if (faults == 0)
-        printf("guard: all eleven calls, no fault\n");
+        printf("guard: all twelve calls, no fault\n");
     return faults != 0;
 }

@@ -16,6 +16,7 @@ extern "C" {
     fn clifford_commutation(
         d: u16, n: u16, p: *const u8, p_len: usize, q: *const u8, q_len: usize,
     ) -> Answer;
+    fn clifford_support(d: u16, n: u16, p: *const u8, p_len: usize) -> calls::Support;
     fn clifford_run(
         d: u16, n: u16, list: *const u8, list_len: usize, p: *const u8, p_len: usize,
         out: *mut u8, out_len: usize,
@@ -46,6 +47,7 @@ pub enum Name {
     Product,
     Power,
     Commutation,
+    Support,
     Run,
     Tableau,
     Synthesis,
@@ -57,11 +59,12 @@ pub enum Name {
 
 use Name::*;
 
-pub const NAMES: [Name; 11] = [
+pub const NAMES: [Name; 12] = [
     LeastMultiplier,
     Product,
     Power,
     Commutation,
+    Support,
     Run,
     Tableau,
     Synthesis,
@@ -86,6 +89,7 @@ impl Name {
             Product => "clifford_product",
             Power => "clifford_power",
             Commutation => "clifford_commutation",
+            Support => "clifford_support",
             Run => "clifford_run",
             Tableau => "clifford_tableau",
             Synthesis => "clifford_synthesis",
@@ -101,7 +105,7 @@ impl Name {
         match self {
             LeastMultiplier => &[1, 5],
             Product | Power => &[1, 2, 3, 4, 5],
-            Commutation => &[1, 2, 3, 5],
+            Commutation | Support => &[1, 2, 3, 5],
             Run => &[1, 2, 3, 4, 5, 6],
             Tableau => &[1, 2, 3, 4, 6],
             Synthesis | Image | Compose | Inverse => &[1, 2, 3, 4, 5, 7, 8],
@@ -113,7 +117,7 @@ impl Name {
         match self {
             LeastMultiplier => &[],
             Product | Commutation => &[Layout::Pauli, Layout::Pauli],
-            Power => &[Layout::Pauli],
+            Power | Support => &[Layout::Pauli],
             Run => &[Layout::List, Layout::Pauli],
             Tableau | Ticks => &[Layout::List],
             Synthesis | Inverse => &[Layout::Tableau],
@@ -124,7 +128,7 @@ impl Name {
 
     pub fn room(self, n: usize) -> usize {
         match self {
-            LeastMultiplier | Commutation | Ticks => 0,
+            LeastMultiplier | Commutation | Support | Ticks => 0,
             Product | Power | Run | Image => calls::pauli_len(n),
             Tableau | Compose | Inverse => calls::tableau_len(n),
             Synthesis => calls::synthesis_room(n),
@@ -170,7 +174,17 @@ pub struct Numbers {
     pub b: u16,
 }
 
-/// Calls the library.
+/// Support's word as the value of an answer, and the number of qudits touched.
+fn parted(support: calls::Support) -> (Answer, u16) {
+    let answer = Answer {
+        number: support.number,
+        value: support.word,
+    };
+    (answer, support.touched)
+}
+
+/// Calls the library. Of support the value is the word; `library_support` has
+/// the number of qudits touched as well.
 ///
 /// # Safety
 /// Each `Lent` is null with length 0, or so many bytes that stay valid during
@@ -186,6 +200,7 @@ pub unsafe fn library(name: Name, x: Numbers, first: Lent, second: Lent, out: Le
         Product => plain(clifford_product(d, n, f, f_len, s, s_len, o, o_len)),
         Power => plain(clifford_power(d, n, f, f_len, a, o, o_len)),
         Commutation => clifford_commutation(d, n, f, f_len, s, s_len),
+        Support => library_support(x, first).0,
         Run => plain(clifford_run(d, n, f, f_len, s, s_len, o, o_len)),
         Tableau => plain(clifford_tableau(d, n, f, f_len, o, o_len)),
         Synthesis => clifford_synthesis(d, n, f, f_len, o, o_len),
@@ -194,6 +209,14 @@ pub unsafe fn library(name: Name, x: Numbers, first: Lent, second: Lent, out: Le
         Inverse => plain(clifford_inverse(d, n, f, f_len, o, o_len)),
         Ticks => clifford_ticks(d, n, f, f_len),
     }
+}
+
+/// Calls the library's support.
+///
+/// # Safety
+/// As for `library`.
+pub unsafe fn library_support(x: Numbers, p: Lent) -> (Answer, u16) {
+    parted(clifford_support(x.d, x.n, p.at, p.len))
 }
 
 /// Makes the same call to the reference.
@@ -205,6 +228,7 @@ pub fn reference(name: Name, x: Numbers, first: &[u8], second: &[u8], out: &mut 
         Product => plain(calls::product(d, n, first, second, out)),
         Power => plain(calls::power(d, n, first, a, out)),
         Commutation => calls::commutation(d, n, first, second),
+        Support => reference_support(x, first).0,
         Run => plain(calls::run(d, n, first, second, out)),
         Tableau => plain(calls::tableau(d, n, first, out)),
         Synthesis => calls::synthesis(d, n, first, out),
@@ -213,4 +237,9 @@ pub fn reference(name: Name, x: Numbers, first: &[u8], second: &[u8], out: &mut 
         Inverse => plain(calls::inverse(d, n, first, out)),
         Ticks => calls::ticks(d, n, first),
     }
+}
+
+/// Makes the same call to the reference.
+pub fn reference_support(x: Numbers, p: &[u8]) -> (Answer, u16) {
+    parted(calls::support(x.d, x.n, p))
 }

@@ -40,6 +40,11 @@ static void commutation(void)
     number = clifford_commutation(dimension, QUDITS, pauli, sizeof pauli, pauli, sizeof pauli).number;
 }
 
+static void support(void)
+{
+    number = clifford_support(dimension, QUDITS, pauli, sizeof pauli).number;
+}
+
 static void run(void)
 {
     number = clifford_run(dimension, QUDITS, list, sizeof list, pauli, sizeof pauli, out, sizeof out);
@@ -80,8 +85,9 @@ static const struct {
     void (*call)(void);
 } calls[] = {
     {"least_multiplier", least_multiplier}, {"product", product}, {"power", power},
-    {"commutation", commutation}, {"run", run}, {"tableau", tableau}, {"synthesis", synthesis},
-    {"image", image}, {"compose", compose}, {"inverse", inverse}, {"ticks", ticks},
+    {"commutation", commutation}, {"support", support}, {"run", run}, {"tableau", tableau},
+    {"synthesis", synthesis}, {"image", image}, {"compose", compose}, {"inverse", inverse},
+    {"ticks", ticks},
 };
 
 static unsigned long drawn = 1;

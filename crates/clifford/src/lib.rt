@@ -1,12 +1,13 @@
 // The C interface: an entry for each public call, with the whole contract of the call that it makes. include/clifford.h has the prototypes.
 // A slice passes as a pointer and a length.
 use arith::checks::Answer;
+use pauli::calls::SupportAnswer;
 ghost use mathlib.Core.Path.{_≡_};
 ghost use lib.ListN.{length};
 ghost use Rattle.arith.specs.Units.{leastMultiplier};
 ghost use Rattle.arith.specs.Answers.{Answered, Written};
 ghost use Rattle.arith.specs.Calls.{multiplierRefusal};
-ghost use Rattle.pauli.specs.Calls.{productRefusal, productBytes, powerRefusal, powerBytes, commutationRefusal, commutationNumber};
+ghost use Rattle.pauli.specs.Calls.{productRefusal, productBytes, powerRefusal, powerBytes, commutationRefusal, commutationNumber, Supported};
 ghost use Rattle.gates.specs.Calls.{runRefusal, runBytes, ticksRefusal, ticksOf};
 ghost use Rattle.synthesis.specs.Demand3.{Synthesised};
 ghost use Rattle.synthesis.specs.Chosen.{Chosen};
@@ -42,6 +43,14 @@ pub extern "C" fn clifford_commutation(d: u16, n: u16, p: &[u8], q: &[u8]) -> An
     ensures { λ r. ⌜ Answered (commutationRefusal d n (now (p .entry)) (now (q .entry))) (commutationNumber d n (now (p .entry)) (now (q .entry))) r ⌝ }
 {
     pauli::calls::commutation(d, n, p, q)
+}
+
+// The support word of p, and the number of qudits that it touches.
+#[no_mangle]
+pub extern "C" fn clifford_support(d: u16, n: u16, p: &[u8]) -> SupportAnswer
+    ensures { λ r. ⌜ Supported d n (now (p .entry)) r ⌝ }
+{
+    pauli::calls::support(d, n, p)
 }
 
 // What the list carries p to.

@@ -8,7 +8,7 @@ ghost use mathlib.Core.Bool.{true};
 ghost use Prim.Native.Nat.{ℕ, _≤_, _<_};
 ghost use Rattle.arith.specs.Refusals.{Dimension};
 ghost use Rattle.arith.specs.Units.{IsUnit};
-ghost use Rattle.pauli.specs.inner.View.{view};
+ghost use Rattle.pauli.specs.inner.View.{view, WordTrue};
 ghost use Rattle.pauli.specs.inner.Touched.{viewTouched};
 ghost use Rattle.gates.specs.Row.{apply, undo};
 ghost use Rattle.gates.specs.Written.{withPower, written, meant, between, highest, takesTwo, legalPower, legalSecond, legalRow};
@@ -183,6 +183,7 @@ impl Ready {
         requires { ⌜ Dimension d × (n ≤ 16) ⌝ }
         requires { ⌜ (legalRow d n (viewRow (self .row)) ≡ true) × InverseRight d self ⌝ }
         ensures { λ r. ⌜ view n r ≡ apply d (meant (viewRow (self .row))) (view n p) ⌝ }
+        ensures { λ r. ⌜ (WordTrue n p → WordTrue n r) ⌝ }
     {
         let row = self.row;
         let kind = row.kind;

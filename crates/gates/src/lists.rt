@@ -8,7 +8,7 @@ ghost use mathlib.Core.Bool.{true};
 ghost use Prim.Native.Nat.{_+_, _*_, _/_, _≤_, _<_};
 ghost use lib.ListN.{length};
 ghost use Rattle.arith.specs.Refusals.{Dimension, numberOf, rowOf};
-ghost use Rattle.pauli.specs.inner.View.{view};
+ghost use Rattle.pauli.specs.inner.View.{view, WordTrue};
 ghost use Rattle.gates.specs.Row.{apply, run};
 ghost use Rattle.gates.specs.Written.{meant, rowAt, listRows, rowsOf, allLegalRows};
 ghost use Rattle.gates.specs.inner.View.{viewRow};
@@ -46,6 +46,7 @@ fn run_row(list: &[u8], r: usize, p: Pauli, d: u16, n: usize) -> Pauli
     requires { ⌜ Dimension d × ((n ≤ 16) × (r < length (now list) / 8)) ⌝ }
     requires { ⌜ allLegalRows d n (listRows (now list)) ≡ true ⌝ }
     ensures { λ q. ⌜ view n q ≡ apply d (meant (rowAt (now (list .entry)) r)) (view n p) ⌝ }
+    ensures { λ q. ⌜ (WordTrue n p → WordTrue n q) ⌝ }
 {
     read_row(list, r).ready(d).apply(p, d, n)
 }
@@ -55,6 +56,7 @@ pub fn run_list(list: &[u8], p: Pauli, d: u16, n: usize) -> Pauli
     requires { ⌜ Dimension d × (n ≤ 16) ⌝ }
     requires { ⌜ allLegalRows d n (listRows (now list)) ≡ true ⌝ }
     ensures { λ q. ⌜ view n q ≡ run d (rowsOf (now (list .entry))) (view n p) ⌝ }
+    ensures { λ q. ⌜ (WordTrue n p → WordTrue n q) ⌝ }
 {
     let count = list.len() / 8;
     let mut q = p;

@@ -12,9 +12,12 @@ use Rattle.arith.specs.declared.residue.Residue.{Residue}
 use Rattle.arith.proofs.Bytes.{tab-none, tab-more, tab-ext, tab-length, tab-at}
 use Rattle.arith.proofs.Cases.{by-eq}
 use Rattle.pauli.specs.Pauli.{dot, plus}
+use Rattle.pauli.specs.Support.{marks, wordOf}
 use Rattle.pauli.specs.inner.View.{at, entries}
+use Rattle.pauli.specs.inner.Words.{Joins}
 use Rattle.pauli.proofs.Sums.{scaled}
 use Rattle.pauli.proofs.Lists.{cons-path}
+use Rattle.pauli.proofs.Marks.{word-none, word-next}
 
 -- ---- an entry read, and one set
 pub entry : {n i : ℕ} (xs : List Residue) → i < n → getD (entries n xs) i 0 ≡ at xs i
@@ -33,23 +36,30 @@ fill-more f xs i x h e p = tab-more (at (set xs i x)) i ∙ ap₂ (λ (l : List 
     same : entries i (set xs i x) ≡ entries i xs
     same = tab-ext (at (set xs i x)) (at xs) i (λ j l. at-other xs i j x (λ q. omega arith))
 
--- a loop that fills two arrays of 16: those before place i hold f and g
-pub record Filled (f g : ℕ → ℕ) (i : ℕ) (v w : List Residue) : Type 0 where
+-- a loop that fills two arrays of 16 and makes their support word: those before place i hold f and g, and the word is theirs
+pub record Filled (f g : ℕ → ℕ) (i : ℕ) (v w : List Residue) (word : ℕ) : Type 0 where
   pub v-places : length v ≡ 16
   pub w-places : length w ≡ 16
   pub v-filled : entries i v ≡ tab f i
   pub w-filled : entries i w ≡ tab g i
+  pub word-made : word ≡ wordOf (marks (tab f i) (tab g i))
 
-pub filled-none : (f g : ℕ → ℕ) {v w : List Residue} → length v ≡ 16 → length w ≡ 16 → Filled f g 0 v w
-filled-none f g h k = record { v-places = h; w-places = k; v-filled = tab-none _ ∙ sym (tab-none f); w-filled = tab-none _ ∙ sym (tab-none g) }
+pub filled-none : (f g : ℕ → ℕ) {v w : List Residue} → length v ≡ 16 → length w ≡ 16 → Filled f g 0 v w 0
+filled-none f g h k = record { v-places = h; w-places = k; v-filled = tab-none _ ∙ sym (tab-none f); w-filled = tab-none _ ∙ sym (tab-none g); word-made = sym (word-none f g) }
 
-pub filled-more : (f g : ℕ → ℕ) (i : ℕ) {v w : List Residue} (x z : Residue) → i < 16 → x .0 ≡ f i → z .0 ≡ g i → Filled f g i v w → Filled f g (i + 1) (set v i x) (set w i z)
-filled-more f g i {v} {w} x z l e k h = record {
+pub filled-more : (f g : ℕ → ℕ) (i : ℕ) {v w : List Residue} {word next : ℕ} (x z : Residue) → i < 16 → x .0 ≡ f i → z .0 ≡ g i → Joins word i (x .0) (z .0) next
+    → Filled f g i v w word → Filled f g (i + 1) (set v i x) (set w i z) next
+filled-more f g i {v} {w} x z l e k m h = record {
   v-places = simp length-set (h .v-places);
   w-places = simp length-set (h .w-places);
   v-filled = fill-more f v i x (omega (arith, h .v-places)) e (h .v-filled);
   w-filled = fill-more g w i z (omega (arith, h .w-places)) k (h .w-filled);
+  word-made = word-next f g i (x .0) (z .0) e k (h .word-made) m;
 }
+
+-- the word is that of the arrays
+pub filled-word : {f g : ℕ → ℕ} {i word : ℕ} {v w : List Residue} → Filled f g i v w word → word ≡ wordOf (marks (entries i v) (entries i w))
+filled-word h = h .word-made ∙ ap wordOf (sym (ap₂ marks (h .v-filled) (h .w-filled)))
 
 -- one entry set, of the array and of the list that it stands for
 pub entries-set : (n : ℕ) (xs : List Residue) (i : ℕ) (x : Residue) → i < length xs → entries n (set xs i x) ≡ set (entries n xs) i (x .0)

@@ -26,6 +26,17 @@ after-three a b c x = orElse-assoc a (orElse b c) x ∙ ap (orElse a) (orElse-as
 after-four : (a b c e x : ℕ) → orElse (orElse a (orElse b (orElse c e))) x ≡ orElse a (orElse b (orElse c (orElse e x)))
 after-four a b c e x = orElse-assoc a (orElse b (orElse c e)) x ∙ ap (orElse a) (after-three b c e x)
 
+-- ---- a Pauli of p bytes: 1, 2, 3
+module _ (d n p : ℕ) where
+  abbrev pub one : ℕ
+  one = orElse (givenOf d n) (sizeOf (pauliBytes n) p)
+
+  pub after-one : (x : ℕ) → orElse one x ≡ orElse (givenOf d n) (orElse (sizeOf (pauliBytes n) p) x)
+  after-one = orElse-assoc (givenOf d n) (sizeOf (pauliBytes n) p)
+
+  pub one-lent : one ≡ 0 → Given d n × (p ≡ pauliBytes n)
+  one-lent e = let x = orElse-none (givenOf d n) (sizeOf (pauliBytes n) p) e in (given-good (x .0), size-good (x .1))
+
 -- ---- two Paulis of p and q bytes: 1, 2, 3 of each
 module _ (d n p q : ℕ) where
   abbrev pub pair : ℕ

@@ -13,6 +13,7 @@ pub mod Hom
 pub mod Encoding
 pub mod Lent
 pub mod Lists
+pub mod Marks
 pub mod Onto
 pub mod Ranges
 pub mod Step
@@ -20,4 +21,5 @@ pub mod Still
 pub mod Sums
 pub mod Numbers
 pub mod Undo
+pub mod Words
 pub mod Units

@@ -1,5 +1,6 @@
 -- In the order to read them. `inner` has what the contracts of functions inside the crate speak of: no reader needs it to believe what a public call promises.
 pub mod Pauli
+pub mod Support
 pub mod Effects
 pub mod Bytes
 pub mod Range

@@ -8,22 +8,36 @@ ghost use lib.ListN.{length};
 ghost use Rattle.arith.specs.Refusals.{numberOf, orElse, givenOf, sizeOf, roomOf};
 ghost use Rattle.arith.specs.Answers.{Answered, Written};
 ghost use Rattle.pauli.specs.Bytes.{pauliBytes};
-ghost use Rattle.pauli.specs.Calls.{productRefusal, productBytes, powerRefusal, powerBytes, commutationRefusal, commutationNumber};
+ghost use Rattle.pauli.specs.Calls.{productRefusal, productBytes, powerRefusal, powerBytes, commutationRefusal, commutationNumber, Supported};
 
-// 1 and 2, then 3 of each of two Paulis, whose bytes are as many as `first` and `second` say.
-fn commutation_check(d: u16, n: u16, first: usize, second: usize) -> Check
-    ensures { λ r. ⌜ numberOf r ≡ orElse (givenOf d n) (orElse (sizeOf (pauliBytes n) first) (sizeOf (pauliBytes n) second)) ⌝ }
+// What the call on a Pauli's support hands back.
+#[repr(C)]
+pub struct SupportAnswer {
+    pub number: u16,
+    pub word: u16,
+    pub touched: u16,
+}
+
+// 1 and 2, then 3 of a Pauli, whose bytes are as many as `size` says.
+fn one_check(d: u16, n: u16, size: usize) -> Check
+    ensures { λ r. ⌜ numberOf r ≡ orElse (givenOf d n) (sizeOf (pauliBytes n) size) ⌝ }
 {
     let given = arith::checks::given(d, n);
     let Check::Good = given else {
         return given;
     };
-    let want = 2 * (1 + 2 * (n as usize));
-    let of_p = arith::checks::size(want, first);
+    arith::checks::size(2 * (1 + 2 * (n as usize)), size)
+}
+
+// 1 and 2, then 3 of each of two Paulis.
+fn commutation_check(d: u16, n: u16, first: usize, second: usize) -> Check
+    ensures { λ r. ⌜ numberOf r ≡ orElse (givenOf d n) (orElse (sizeOf (pauliBytes n) first) (sizeOf (pauliBytes n) second)) ⌝ }
+{
+    let of_p = one_check(d, n, first);
     let Check::Good = of_p else {
         return of_p;
     };
-    arith::checks::size(want, second)
+    arith::checks::size(2 * (1 + 2 * (n as usize)), second)
 }
 
 // 1 and 2, then 3 of each of two Paulis, then 4 of an output.
@@ -112,5 +126,37 @@ pub fn commutation(d: u16, n: u16, p: &[u8], q: &[u8]) -> Answer
     Answer {
         number: 0,
         value: number.value(),
+    }
+}
+
+// The answer of a call on a Pauli's support that a check refused.
+fn no_support(found: Check) -> SupportAnswer
+    ensures { λ r. ⌜ (r .number ≡ numberOf found) × ((r .word ≡ 0) × (r .touched ≡ 0)) ⌝ }
+{
+    SupportAnswer {
+        number: arith::checks::number(found),
+        word: 0,
+        touched: 0,
+    }
+}
+
+// The support word of p, and the number of qudits that it touches.
+pub fn support(d: u16, n: u16, p: &[u8]) -> SupportAnswer
+    ensures { λ r. ⌜ Supported d n (now (p .entry)) r ⌝ }
+{
+    let found = one_check(d, n, p.len());
+    let Check::Good = found else {
+        return no_support(found);
+    };
+    let m = n as usize;
+    let lent = Pauli::read(p, 0, m);
+    let ranged = lent.range(d, m);
+    let Check::Good = ranged else {
+        return no_support(ranged);
+    };
+    SupportAnswer {
+        number: 0,
+        word: lent.support,
+        touched: u16::count_ones(lent.support) as u16,
     }
 }

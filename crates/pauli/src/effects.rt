@@ -13,7 +13,7 @@ ghost use mathlib.Core.Logic.{_≢_};
 ghost use Prim.Native.Nat.{ℕ, _<_, _≤_};
 ghost use Rattle.arith.specs.Refusals.{Dimension};
 ghost use Rattle.arith.specs.Units.{inverseOf};
-ghost use Rattle.pauli.specs.inner.View.{entries, view};
+ghost use Rattle.pauli.specs.inner.View.{entries, view, WordTrue};
 ghost use Rattle.pauli.specs.inner.Touched.{viewTouched, touched, placed};
 ghost use Rattle.pauli.specs.Effects.{effectF, effectS, effectA, effectM, effectX, effectZ};
 
@@ -59,19 +59,22 @@ impl Pauli {
         }
     }
 
-    // The Pauli with another phase, and x and z at qudit i.
+    // The Pauli with another phase, and x and z at qudit i: of its support word the bit of that qudit changes alone.
     pub fn placed(self, i: u16, phase: Phase, x: Residue, z: Residue) -> Pauli
         requires { ⌜ i < 16 ⌝ }
         ensures { λ r. ⌜ ((n : ℕ) → i < n → n ≤ 16 → view n r ≡ placed i (phase .0) (x .0) (z .0) (view n self)) ⌝ }
+        ensures { λ r. ⌜ ((n : ℕ) → i < n → n ≤ 16 → WordTrue n self → WordTrue n r) ⌝ }
     {
         let xs = self.v;
         let zs = self.w;
         let v = with_one(xs, i, x);
         let w = with_one(zs, i, z);
+        let word = crate::support::with_entries(self.support, i, x, z);
         Pauli {
             phase: phase,
             v: v,
             w: w,
+            support: word,
         }
     }
 
@@ -79,6 +82,7 @@ impl Pauli {
     pub fn effect_f(self, i: u16, k: Power, d: u16) -> Pauli
         requires { ⌜ Dimension d × (i < 16) ⌝ }
         ensures { λ r. ⌜ ((n : ℕ) → i < n → n ≤ 16 → view n r ≡ effectF d i (k .0) (view n self)) ⌝ }
+        ensures { λ r. ⌜ ((n : ℕ) → i < n → n ≤ 16 → WordTrue n self → WordTrue n r) ⌝ }
     {
         let t = self.touched(i, i).effect_f(k, d);
         self.placed(i, t.phase, t.vi, t.wi)
@@ -88,6 +92,7 @@ impl Pauli {
     pub fn effect_s(self, i: u16, k: Power, d: u16) -> Pauli
         requires { ⌜ Dimension d × (i < 16) ⌝ }
         ensures { λ r. ⌜ ((n : ℕ) → i < n → n ≤ 16 → view n r ≡ effectS d i (k .0) (view n self)) ⌝ }
+        ensures { λ r. ⌜ ((n : ℕ) → i < n → n ≤ 16 → WordTrue n self → WordTrue n r) ⌝ }
     {
         let t = self.touched(i, i).effect_s(k, d);
         self.placed(i, t.phase, t.vi, t.wi)
@@ -97,6 +102,7 @@ impl Pauli {
     pub fn effect_a(self, i: u16, j: u16, k: Power, d: u16) -> Pauli
         requires { ⌜ Dimension d × ((i < 16) × ((j < 16) × (i ≢ j))) ⌝ }
         ensures { λ r. ⌜ ((n : ℕ) → i < n → j < n → n ≤ 16 → view n r ≡ effectA d i j (k .0) (view n self)) ⌝ }
+        ensures { λ r. ⌜ ((n : ℕ) → i < n → j < n → n ≤ 16 → WordTrue n self → WordTrue n r) ⌝ }
     {
         let t = self.touched(i, j).effect_a(k, d);
         self.placed(i, t.phase, t.vi, t.wi)
@@ -108,6 +114,7 @@ impl Pauli {
         requires { ⌜ Dimension d × (i < 16) ⌝ }
         requires { ⌜ inverse .0 ≡ inverseOf d (k .0) ⌝ }
         ensures { λ r. ⌜ ((n : ℕ) → i < n → n ≤ 16 → view n r ≡ effectM d i (k .0) (view n self)) ⌝ }
+        ensures { λ r. ⌜ ((n : ℕ) → i < n → n ≤ 16 → WordTrue n self → WordTrue n r) ⌝ }
     {
         let t = self.touched(i, i).effect_m(k, inverse, d);
         self.placed(i, t.phase, t.vi, t.wi)
@@ -117,6 +124,7 @@ impl Pauli {
     pub fn effect_x(self, i: u16, k: Power, d: u16) -> Pauli
         requires { ⌜ Dimension d × (i < 16) ⌝ }
         ensures { λ r. ⌜ ((n : ℕ) → i < n → n ≤ 16 → view n r ≡ effectX d i (k .0) (view n self)) ⌝ }
+        ensures { λ r. ⌜ ((n : ℕ) → i < n → n ≤ 16 → WordTrue n self → WordTrue n r) ⌝ }
     {
         let t = self.touched(i, i).effect_x(k, d);
         self.placed(i, t.phase, t.vi, t.wi)
@@ -126,6 +134,7 @@ impl Pauli {
     pub fn effect_z(self, i: u16, k: Power, d: u16) -> Pauli
         requires { ⌜ Dimension d × (i < 16) ⌝ }
         ensures { λ r. ⌜ ((n : ℕ) → i < n → n ≤ 16 → view n r ≡ effectZ d i (k .0) (view n self)) ⌝ }
+        ensures { λ r. ⌜ ((n : ℕ) → i < n → n ≤ 16 → WordTrue n self → WordTrue n r) ⌝ }
     {
         let t = self.touched(i, i).effect_z(k, d);
         self.placed(i, t.phase, t.vi, t.wi)

@@ -10,7 +10,7 @@ ghost use Rattle.arith.specs.Bytes.{tab};
 ghost use Rattle.arith.specs.Refusals.{Dimension, numberOf};
 ghost use Rattle.pauli.specs.Pauli.{InRange, plus, product, phaseOnly, power, comm, unit, parity};
 ghost use Rattle.pauli.specs.Range.{pauliRangeOf, pairRangeOf};
-ghost use Rattle.pauli.specs.inner.View.{at, entries, view};
+ghost use Rattle.pauli.specs.inner.View.{at, entries, view, WordTrue};
 
 // k·(k − 1): the pairs of two of k copies, each pair in both orders. An even number.
 fn ordered_pairs(k: Power) -> u64
@@ -24,11 +24,13 @@ impl Pauli {
     // A phase and nothing else.
     pub fn phase_only(h: Phase) -> Pauli
         ensures { λ r. ⌜ ((n : ℕ) → view n r ≡ phaseOnly n (h .0)) ⌝ }
+        ensures { λ r. ⌜ ((n : ℕ) → WordTrue n r) ⌝ }
     {
         Pauli {
             phase: h,
             v: [Residue::ZERO; 16],
             w: [Residue::ZERO; 16],
+            support: 0,
         }
     }
 
@@ -36,6 +38,7 @@ impl Pauli {
     pub fn unit(j: usize, n: usize) -> Pauli
         requires { ⌜ (n ≤ 16) × (j < 2 * n) ⌝ }
         ensures { λ r. ⌜ view n r ≡ unit n j ⌝ }
+        ensures { λ r. ⌜ WordTrue n r ⌝ }
     {
         let zeros = [Residue::ZERO; 16];
         let mut one = [Residue::ZERO; 16];
@@ -45,6 +48,7 @@ impl Pauli {
                 phase: Phase::ZERO,
                 v: one,
                 w: zeros,
+                support: 1 << j,
             };
         }
         one[j - n] = Residue::ONE;
@@ -52,6 +56,7 @@ impl Pauli {
             phase: Phase::ZERO,
             v: zeros,
             w: one,
+            support: 1 << (j - n),
         }
     }
 
@@ -59,6 +64,7 @@ impl Pauli {
     fn summed(self, other: Pauli, phase: Phase, d: u16, n: usize) -> Pauli
         requires { ⌜ Dimension d × (n ≤ 16) ⌝ }
         ensures { λ r. ⌜ view n r ≡ record { phase = phase .0; v = plus d (entries n (self .v)) (entries n (other .v)); w = plus d (entries n (self .w)) (entries n (other .w)) } ⌝ }
+        ensures { λ r. ⌜ WordTrue n r ⌝ }
     {
         let v = self.v;
         let w = self.w;
@@ -66,16 +72,21 @@ impl Pauli {
         let t = other.w;
         let mut vs = [Residue::ZERO; 16];
         let mut wt = [Residue::ZERO; 16];
+        let mut sum_word: u16 = 0;
         for i in 0..n {
             let x = v[i];
             let z = w[i];
-            vs[i] = x.plus(s[i], d);
-            wt[i] = z.plus(t[i], d);
+            let xs = x.plus(s[i], d);
+            let zt = z.plus(t[i], d);
+            vs[i] = xs;
+            wt[i] = zt;
+            sum_word = crate::support::with_next(sum_word, i, xs, zt);
         }
         Pauli {
             phase: phase,
             v: vs,
             w: wt,
+            support: sum_word,
         }
     }
 
@@ -83,21 +94,27 @@ impl Pauli {
     fn scaled(self, k: Power, phase: Phase, d: u16, n: usize) -> Pauli
         requires { ⌜ Dimension d × (n ≤ 16) ⌝ }
         ensures { λ r. ⌜ view n r ≡ record { phase = phase .0; v = tab (λ i. k .0 * at (self .v) i % d) n; w = tab (λ i. k .0 * at (self .w) i % d) n } ⌝ }
+        ensures { λ r. ⌜ WordTrue n r ⌝ }
     {
         let v = self.v;
         let w = self.w;
         let mut kv = [Residue::ZERO; 16];
         let mut kw = [Residue::ZERO; 16];
+        let mut word: u16 = 0;
         for i in 0..n {
             let x = v[i];
             let z = w[i];
-            kv[i] = x.scaled(k, d);
-            kw[i] = z.scaled(k, d);
+            let kx = x.scaled(k, d);
+            let kz = z.scaled(k, d);
+            kv[i] = kx;
+            kw[i] = kz;
+            word = crate::support::with_next(word, i, kx, kz);
         }
         Pauli {
             phase: phase,
             v: kv,
             w: kw,
+            support: word,
         }
     }
 
@@ -105,6 +122,7 @@ impl Pauli {
     pub fn product(self, other: Pauli, d: u16, n: usize) -> Pauli
         requires { ⌜ Dimension d × (n ≤ 16) ⌝ }
         ensures { λ r. ⌜ view n r ≡ product d (view n self) (view n other) ⌝ }
+        ensures { λ r. ⌜ WordTrue n r ⌝ }
     {
         let w = self.w;
         let s = other.v;
@@ -120,6 +138,7 @@ impl Pauli {
         requires { ⌜ Dimension d × (n ≤ 16) ⌝ }
         requires { ⌜ InRange d n (view n self) ⌝ }
         ensures { λ r. ⌜ view n r ≡ power d n (view n self) (k .0) ⌝ }
+        ensures { λ r. ⌜ WordTrue n r ⌝ }
     {
         let v = self.v;
         let w = self.w;
@@ -132,8 +151,8 @@ impl Pauli {
         self.scaled(k, phase, d, n)
     }
 
-    // The commutation number of (δ, v, w) and (ε, s, t): w·s − v·t.
-    pub fn commutation(self, other: Pauli, d: u16, n: usize) -> Residue
+    // The commutation number of (δ, v, w) and (ε, s, t), by all their entries: w·s − v·t. It needs no support word.
+    pub fn full_commutation(self, other: Pauli, d: u16, n: usize) -> Residue
         requires { ⌜ Dimension d × (n ≤ 16) ⌝ }
         ensures { λ r. ⌜ r .0 ≡ comm d (view n self) (view n other) ⌝ }
     {
@@ -144,6 +163,18 @@ impl Pauli {
         let ws = Residue::reduced(crate::arrays::sum_of_products(w, s, n), d);
         let vt = Residue::reduced(crate::arrays::sum_of_products(v, t, n), d);
         ws.minus(vt, d)
+    }
+
+    // The commutation number: 0 where no qudit is touched by both, and then no entry is looked at.
+    pub fn commutation(self, other: Pauli, d: u16, n: usize) -> Residue
+        requires { ⌜ Dimension d × (n ≤ 16) ⌝ }
+        requires { ⌜ WordTrue n self × WordTrue n other ⌝ }
+        ensures { λ r. ⌜ r .0 ≡ comm d (view n self) (view n other) ⌝ }
+    {
+        if self.support & other.support == 0 {
+            return Residue::ZERO;
+        }
+        self.full_commutation(other, d, n)
     }
 
     // The number δ + (d − 1)·(w·v) modulo 2, which is 0 where the d-th power is the identity.

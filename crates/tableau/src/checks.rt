@@ -22,13 +22,13 @@ fn wanted(j: usize, k: usize, d: u16, n: usize) -> u16
     0
 }
 
-// Whether columns j < k have the commutation number that they must have.
+// Whether columns j < k have the commutation number that they must have. All entries are looked at: words for so many pairs would cost more than they save.
 fn pair_passes(t: &[[u16; 33]; 32], j: usize, k: usize, d: u16, n: usize) -> bool
     requires { ⌜ Dimension d × (n ≤ 16) ⌝ }
     requires { ⌜ (j < 2 * n) × (k < 2 * n) ⌝ }
     ensures { λ r. ⌜ r ≡ pairPasses d n (tableView n (now (t .entry))) j k ⌝ }
 {
-    let found = crate::table::column(t, j).commutation(crate::table::column(t, k), d, n);
+    let found = crate::table::column(t, j, n).full_commutation(crate::table::column(t, k, n), d, n);
     found.value() == wanted(j, k, d, n)
 }
 
@@ -70,7 +70,7 @@ pub fn parity(t: &[[u16; 33]; 32], d: u16, n: usize) -> Check
 {
     let m = 2 * n;
     for j in 0..m {
-        let odd = crate::table::column(t, j).parity(d, n);
+        let odd = crate::table::column(t, j, n).parity(d, n);
         if odd != 0 {
             return Check::Refused(Refusal::Parity);
         }
@@ -97,7 +97,7 @@ pub fn range(t: &[[u16; 33]; 32], d: u16, n: usize) -> Check
 {
     let m = 2 * n;
     for j in 0..m {
-        let found = crate::table::column(t, j).range(d, n);
+        let found = crate::table::column(t, j, n).range(d, n);
         let Check::Good = found else {
             return found;
         };

@@ -8,7 +8,7 @@ ghost use mathlib.Core.List.{_++_};
 ghost use Prim.Native.Nat.{_*_, _≤_, _<_};
 ghost use lib.ListN.{getD};
 ghost use Rattle.arith.specs.Refusals.{Dimension};
-ghost use Rattle.pauli.specs.inner.View.{view, entries};
+ghost use Rattle.pauli.specs.inner.View.{view, entries, WordTrue};
 ghost use Rattle.tableau.specs.Tableau.{image, AllInRange};
 ghost use Rattle.tableau.specs.Inverse.{drawn, preimage};
 ghost use Rattle.tableau.specs.inner.View.{tableView};
@@ -33,12 +33,13 @@ pub fn image(t: &[[u16; 33]; 32], p: Pauli, d: u16, n: usize) -> Pauli
     requires { ⌜ Dimension d × (n ≤ 16) ⌝ }
     requires { ⌜ AllInRange d n (tableView n (now t)) ⌝ }
     ensures { λ r. ⌜ view n r ≡ image d n (tableView n (now (t .entry))) (view n p) ⌝ }
+    ensures { λ r. ⌜ WordTrue n r ⌝ }
 {
     let m = 2 * n;
     let phase = p.phase;
     let mut out = Pauli::phase_only(phase);
     for j in 0..m {
-        let factor = crate::table::column(t, j).power(exponent(p, j, n), d, n);
+        let factor = crate::table::column(t, j, n).power(exponent(p, j, n), d, n);
         out = out.product(factor, d, n);
     }
     out
@@ -48,18 +49,24 @@ pub fn image(t: &[[u16; 33]; 32], p: Pauli, d: u16, n: usize) -> Pauli
 fn drawn(t: &[[u16; 33]; 32], q: Pauli, d: u16, n: usize) -> Pauli
     requires { ⌜ Dimension d × (n ≤ 16) ⌝ }
     ensures { λ r. ⌜ view n r ≡ drawn d n (tableView n (now (t .entry))) (view n q) ⌝ }
+    ensures { λ r. ⌜ WordTrue n r ⌝ }
 {
     let mut v = [Residue::ZERO; 16];
     let mut w = [Residue::ZERO; 16];
+    let mut word: u16 = 0;
     for i in 0..n {
-        let z = q.commutation(crate::table::column(t, n + i), d, n);
-        v[i] = z.negative(d);
-        w[i] = q.commutation(crate::table::column(t, i), d, n);
+        let c = q.full_commutation(crate::table::column(t, n + i, n), d, n);
+        let x = c.negative(d);
+        let z = q.full_commutation(crate::table::column(t, i, n), d, n);
+        v[i] = x;
+        w[i] = z;
+        word = pauli::support::with_next(word, i, x, z);
     }
     Pauli {
         phase: Phase::ZERO,
         v: v,
         w: w,
+        support: word,
     }
 }
 
@@ -68,6 +75,7 @@ pub fn preimage(t: &[[u16; 33]; 32], q: Pauli, d: u16, n: usize) -> Pauli
     requires { ⌜ Dimension d × (n ≤ 16) ⌝ }
     requires { ⌜ AllInRange d n (tableView n (now t)) ⌝ }
     ensures { λ r. ⌜ view n r ≡ preimage d n (tableView n (now (t .entry))) (view n q) ⌝ }
+    ensures { λ r. ⌜ WordTrue n r ⌝ }
 {
     let entries = drawn(t, q, d, n);
     let reached = image(t, entries, d, n);
@@ -79,5 +87,6 @@ pub fn preimage(t: &[[u16; 33]; 32], q: Pauli, d: u16, n: usize) -> Pauli
         phase: phase,
         v: v,
         w: w,
+        support: entries.support,
     }
 }

@@ -33,7 +33,7 @@ fn write_table(t: &[[u16; 33]; 32], n: usize, out: &mut [u8])
 {
     let m = 2 * n;
     for j in 0..m {
-        write_column(crate::table::column(t, j), out, j, n);
+        write_column(crate::table::column(t, j, n), out, j, n);
     }
 }
 
@@ -68,7 +68,7 @@ pub fn write_composed(
 {
     let m = 2 * n;
     for j in 0..m {
-        let c = crate::maps::image(second, crate::table::column(first, j), d, n);
+        let c = crate::maps::image(second, crate::table::column(first, j, n), d, n);
         write_column(c, out, j, n);
     }
 }

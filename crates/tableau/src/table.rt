@@ -13,7 +13,7 @@ ghost use lib.ListN.{length, getD};
 ghost use Rattle.arith.specs.Refusals.{Dimension};
 ghost use Rattle.pauli.specs.Pauli.{phaseOnly, unit};
 ghost use Rattle.pauli.specs.Bytes.{decodeAt};
-ghost use Rattle.pauli.specs.inner.View.{view};
+ghost use Rattle.pauli.specs.inner.View.{view, WordTrue};
 ghost use Rattle.pauli.specs.inner.Touched.{viewTouched, touched, replaced};
 ghost use Rattle.gates.specs.Row.{apply};
 ghost use Rattle.gates.specs.Written.{meant, legalRow};
@@ -50,17 +50,20 @@ pub fn phase_at(t: &[[u16; 33]; 32], c: usize) -> Phase
 
 // ---- its columns
 
-// Column j as a Pauli.
-pub fn column(t: &[[u16; 33]; 32], j: usize) -> Pauli
-    requires { ⌜ j < 32 ⌝ }
-    ensures { λ r. ⌜ ((n : ℕ) → n ≤ 16 → j < 2 * n → view n r ≡ column n (tableView n (now (t .entry))) j) ⌝ }
+// Column j as a Pauli. A column in work has no support word: it is made here.
+pub fn column(t: &[[u16; 33]; 32], j: usize, n: usize) -> Pauli
+    requires { ⌜ (n ≤ 16) × (j < 2 * n) ⌝ }
+    ensures { λ r. ⌜ view n r ≡ column n (tableView n (now (t .entry))) j ⌝ }
+    ensures { λ r. ⌜ WordTrue n r ⌝ }
 {
     let v = pauli::arrays::entries_from(&t[j], 1);
     let w = pauli::arrays::entries_from(&t[j], 17);
+    let word = pauli::support::word_from(&t[j], 1, 17, n);
     Pauli {
         phase: Phase::lent(t[j][0]),
         v: v,
         w: w,
+        support: word,
     }
 }
 

@@ -1,4 +1,4 @@
-//! The eleven public calls on bytes. Each runs its tests in the order of the
+//! The twelve public calls on bytes. Each runs its tests in the order of the
 //! table over all its inputs and answers with the first that fails; it writes
 //! to the output only after all of them hold.
 
@@ -20,6 +20,16 @@ pub const TEXT: u16 = 9;
 pub struct Answer {
     pub number: u16,
     pub value: u16,
+}
+
+/// What support gives: a number of the table, or 0, and two values, 0 on
+/// refusal.
+#[derive(Clone, Copy, Debug, PartialEq, Eq)]
+#[repr(C)]
+pub struct Support {
+    pub number: u16,
+    pub word: u16,
+    pub touched: u16,
 }
 
 type Checked<T> = Result<T, u16>;
@@ -229,6 +239,28 @@ pub fn commutation(d: u16, n: u16, p: &[u8], q: &[u8]) -> Answer {
         let q = pauli_in_range(q, d)?;
         Ok(p.commutation(&q, d))
     })())
+}
+
+pub fn support(d: u16, n: u16, p: &[u8]) -> Support {
+    let result = (|| {
+        let d = dimension(d)?;
+        let n = width(n)?;
+        length(p, pauli_len(n))?;
+        let p = pauli_in_range(p, d)?;
+        Ok(p.support())
+    })();
+    match result {
+        Ok((word, touched)) => Support {
+            number: 0,
+            word: word as u16,
+            touched: touched as u16,
+        },
+        Err(number) => Support {
+            number,
+            word: 0,
+            touched: 0,
+        },
+    }
 }
 
 pub fn run(d: u16, n: u16, list: &[u8], p: &[u8], out: &mut [u8]) -> u16 {

@@ -3,7 +3,7 @@
 //! close to the words of the rules and takes no short cut for speed.
 //!
 //! This file has the mathematics: numbers are `i64` and always reduced.
-//! `calls` has the eleven public calls on bytes, `text` the text program,
+//! `calls` has the twelve public calls on bytes, `text` the text program,
 //! `random` the seeded inputs.
 
 pub mod calls;
@@ -142,6 +142,19 @@ impl Pauli {
     pub fn commutation(&self, other: &Pauli, d: i64) -> i64 {
         (dot(&self.w, &other.v) - dot(&self.v, &other.w)).rem_euclid(d)
     }
+
+    /// The support word, which has bit i − 1 for qudit i, and the number of
+    /// qudits touched.
+    pub fn support(&self) -> (i64, i64) {
+        let (mut word, mut touched) = (0, 0);
+        for i in 0..self.v.len() {
+            if self.v[i] != 0 || self.w[i] != 0 {
+                word += 1 << i;
+                touched += 1;
+            }
+        }
+        (word, touched)
+    }
 }
 
 // ----------------------------------------------------------------- gate rows
@@ -224,7 +237,7 @@ impl Row {
     }
 
     /// The legal row that undoes this one.
-    fn undo(&self, d: i64) -> Row {
+    pub fn undo(&self, d: i64) -> Row {
         let k = self.power as i64;
         let power = match self.kind {
             F => 4 - k,

@@ -9,6 +9,9 @@ pub const DIMENSIONS: [u16; 30] = [
     512, 720, 961, 1021, 1023, 1024,
 ];
 
+/// The ways to touch a qudit: whether v isn't 0, and whether w isn't.
+pub const WAYS: [(bool, bool); 3] = [(true, false), (false, true), (true, true)];
+
 pub struct Random(u64);
 
 impl Random {
@@ -70,6 +73,15 @@ impl Random {
         }
     }
 
+    fn nonzero(&mut self, limit: i64) -> i64 {
+        loop {
+            let entry = self.entry(limit);
+            if entry != 0 {
+                break entry;
+            }
+        }
+    }
+
     pub fn pauli(&mut self, d: i64, n: usize) -> Pauli {
         let mut p = Pauli::zero(n);
         p.phase = self.entry(2 * d);
@@ -77,6 +89,30 @@ impl Random {
             .chain(&mut p.w)
             .for_each(|x| *x = self.entry(d));
         p
+    }
+
+    /// Makes a Pauli touch qudit i + 1 in a given way.
+    pub fn touch(&mut self, p: &mut Pauli, i: usize, way: (bool, bool), d: i64) {
+        p.v[i] = if way.0 { self.nonzero(d) } else { 0 };
+        p.w[i] = if way.1 { self.nonzero(d) } else { 0 };
+    }
+
+    /// A Pauli that touches the qudits of a support word and no others.
+    pub fn pauli_on(&mut self, word: usize, d: i64, n: usize) -> Pauli {
+        let mut p = Pauli::zero(n);
+        p.phase = self.entry(2 * d);
+        for i in (0..n).filter(|i| word >> i & 1 == 1) {
+            let way = self.pick(&WAYS);
+            self.touch(&mut p, i, way, d);
+        }
+        p
+    }
+
+    /// A Pauli that touches three qudits at most.
+    pub fn sparse_pauli(&mut self, d: i64, n: usize) -> Pauli {
+        let count = self.between(0, 3);
+        let word = (0..count).fold(0, |word, _| word | 1 << self.below(n));
+        self.pauli_on(word, d, n)
     }
 
     pub fn row(&mut self, d: i64, n: usize) -> Row {

@@ -219,6 +219,79 @@ fn unexpected_lists() {
 }
 
 #[test]
+fn support_by_hand() {
+    let gives = |d, p: &Pauli, word, touched| {
+        let given = calls::support(d, p.v.len() as u16, &calls::bytes_of_pauli(p));
+        let wanted = calls::Support {
+            number: 0,
+            word,
+            touched,
+        };
+        assert_eq!(given, wanted, "{p:?}");
+    };
+    gives(6, &pauli(0, &[2, 0, 0], &[0, 0, 3]), 5, 2);
+    gives(6, &pauli(11, &[5, 0, 0], &[5, 0, 5]), 5, 2);
+    gives(6, &pauli(11, &[0, 1, 0], &[0, 0, 0]), 2, 1);
+    gives(6, &pauli(11, &[0, 0, 0], &[0, 1, 0]), 2, 1);
+    gives(6, &pauli(11, &[0, 0, 0], &[0, 0, 0]), 0, 0);
+    gives(2, &pauli(3, &[1], &[1]), 1, 1);
+    gives(1024, &pauli(0, &[0; 16], &[256; 16]), 65_535, 16);
+    for n in 1..=16 {
+        gives(2, &Pauli::zero(n), 0, 0);
+        for i in 0..n {
+            gives(2, &Pauli::unit(n, i + 1), 1 << i, 1);
+            gives(2, &Pauli::unit(n, n + i + 1), 1 << i, 1);
+        }
+    }
+}
+
+/// Each refusal, and of several the first in the order of the table.
+#[test]
+fn support_refusals() {
+    for (faults, place) in (0..16).flat_map(|faults| (0..7).map(move |place| (faults, place))) {
+        let [dimension, width, length, range] = [0, 1, 2, 3].map(|bit| faults >> bit & 1 == 1);
+        let d = if dimension { 1025 } else { 6 };
+        let n = if width { 17 } else { 3 };
+        let mut numbers: [u16; 7] = [11, 5, 0, 0, 0, 0, 5];
+        if range {
+            numbers[place] = if place == 0 { 12 } else { 6 };
+        }
+        let mut p = calls::bytes(numbers);
+        if length {
+            p.push(0);
+        }
+        let (number, word, touched) = match () {
+            _ if dimension => (calls::DIMENSION, 0, 0),
+            _ if width => (calls::WIDTH, 0, 0),
+            _ if length => (calls::LENGTH, 0, 0),
+            _ if range => (calls::RANGE, 0, 0),
+            _ => (0, 5, 2),
+        };
+        let wanted = calls::Support {
+            number,
+            word,
+            touched,
+        };
+        assert_eq!(calls::support(d, n, &p), wanted, "{numbers:?}");
+    }
+}
+
+#[test]
+fn paulis_touch_what_they_are_drawn_for() {
+    let mut random = Random::new(6, 0);
+    for _ in 0..2000 {
+        let d = random.pick(&DIMENSIONS) as i64;
+        let n = random.between(1, 16);
+        let word = random.below(1 << n);
+        let p = random.pauli_on(word, d, n);
+        assert!(p.in_range(d));
+        assert_eq!(p.support(), (word as i64, word.count_ones() as i64));
+        let sparse = random.sparse_pauli(d, n);
+        assert!(sparse.in_range(d) && sparse.support().1 <= 3);
+    }
+}
+
+#[test]
 fn limits_of_d_and_n() {
     for d in [0, 1, 2, 1024, 1025, u16::MAX] {
         for n in [0, 1, 16, 17, u16::MAX] {

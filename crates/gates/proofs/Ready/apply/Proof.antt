@@ -27,11 +27,11 @@ apply-spec = tie.close (tie.spec
     (λ c κs. ((c .before .before .before .pre .0 .0, first (c .before) .1), c .before .before .before .pre .1 .1 (c .match .keys4)))  -- effect-m-requires
     (λ c κs. (c .before .before .before .pre .0 .0, first (c .before) .1))  -- effect-x-requires
     (λ c κs. (c .before .before .before .pre .0 .0, first (c .before) .1))  -- effect-z-requires
-    (λ c. c .effect-f .ensures _ (first (c .before .before) .0) (c .before .before .before .before .pre .0 .1) ∙ of-kind _ (viewRow (c .before .before .before .before .args .self .row)) 1 _ (c .before .match .keys1))  -- returns
-    (λ c. c .effect-s .ensures _ (first (c .before .before) .0) (c .before .before .before .before .pre .0 .1) ∙ of-kind _ (viewRow (c .before .before .before .before .args .self .row)) 2 _ (c .before .match .keys2))  -- returns-2
+    (λ c. (c .effect-f .ensures .0 _ (first (c .before .before) .0) (c .before .before .before .before .pre .0 .1) ∙ of-kind _ (viewRow (c .before .before .before .before .args .self .row)) 1 _ (c .before .match .keys1), c .effect-f .ensures .1 _ (first (c .before .before) .0) (c .before .before .before .before .pre .0 .1)))  -- returns
+    (λ c. (c .effect-s .ensures .0 _ (first (c .before .before) .0) (c .before .before .before .before .pre .0 .1) ∙ of-kind _ (viewRow (c .before .before .before .before .args .self .row)) 2 _ (c .before .match .keys2), c .effect-s .ensures .1 _ (first (c .before .before) .0) (c .before .before .before .before .pre .0 .1)))  -- returns-2
     (λ c. let f = first (c .before .before .before) in let s = second (c .before .before .before) (ap takesTwo (c .before .before .match .keys3)) in
-    c .effect-a .ensures (c .before .before .before .before .before .args .n) (omega arith) (omega arith) (c .before .before .before .before .before .pre .0 .1) ∙ of-kind _ (viewRow (c .before .before .before .before .before .args .self .row)) 3 _ (c .before .before .match .keys3))  -- returns-3
-    (λ c. c .effect-m .ensures _ (first (c .before .before) .0) (c .before .before .before .before .pre .0 .1) ∙ of-kind _ (viewRow (c .before .before .before .before .args .self .row)) 4 _ (c .before .match .keys4))  -- returns-4
-    (λ c. c .effect-x .ensures _ (first (c .before .before) .0) (c .before .before .before .before .pre .0 .1) ∙ of-kind _ (viewRow (c .before .before .before .before .args .self .row)) 5 _ (c .before .match .keys5))  -- returns-5
-    (λ c. c .effect-z .ensures _ (first (c .before .before) .0) (c .before .before .before .before .pre .0 .1) ∙ of-kind _ (viewRow (c .before .before .before .before .args .self .row)) 6 _ (c .before .match .keys6))  -- returns-6
+    (c .effect-a .ensures .0 (c .before .before .before .before .before .args .n) (omega arith) (omega arith) (c .before .before .before .before .before .pre .0 .1) ∙ of-kind _ (viewRow (c .before .before .before .before .before .args .self .row)) 3 _ (c .before .before .match .keys3), c .effect-a .ensures .1 (c .before .before .before .before .before .args .n) (omega arith) (omega arith) (c .before .before .before .before .before .pre .0 .1)))  -- returns-3
+    (λ c. (c .effect-m .ensures .0 _ (first (c .before .before) .0) (c .before .before .before .before .pre .0 .1) ∙ of-kind _ (viewRow (c .before .before .before .before .args .self .row)) 4 _ (c .before .match .keys4), c .effect-m .ensures .1 _ (first (c .before .before) .0) (c .before .before .before .before .pre .0 .1)))  -- returns-4
+    (λ c. (c .effect-x .ensures .0 _ (first (c .before .before) .0) (c .before .before .before .before .pre .0 .1) ∙ of-kind _ (viewRow (c .before .before .before .before .args .self .row)) 5 _ (c .before .match .keys5), c .effect-x .ensures .1 _ (first (c .before .before) .0) (c .before .before .before .before .pre .0 .1)))  -- returns-5
+    (λ c. (c .effect-z .ensures .0 _ (first (c .before .before) .0) (c .before .before .before .before .pre .0 .1) ∙ of-kind _ (viewRow (c .before .before .before .before .args .self .row)) 6 _ (c .before .match .keys6), c .effect-z .ensures .1 _ (first (c .before .before) .0) (c .before .before .before .before .pre .0 .1)))  -- returns-6
     (λ c. absurd (legal-kind _ _ _ (c .before .before .before .pre .1 .0) (no-kind _ _ (c .match .rest)))))  -- returns-7

@@ -26,4 +26,4 @@ run-spec = tie.close (tie.spec
     (λ c κs. let z = accepted (c .before .before .before) in search needs)  -- write-requires
     (λ c. search needs)  -- same-length
     (λ c. let a = c .before .before .before .before .before .before .before .before .before .before .before .before .args in written (good _ (c .before .before .before .before .before .before .before .before .run-check .ensures) (c .before .before .before .before .before .before .enum-told .given .1)) refl
-    (write-answer (a .n) _ _ (c .before .before .before .before .run-list .result) _ (accepted (c .before .before .before .before .before .before) .fits) (c .before .before .write .ensures) (c .before .before .before .before .run-list .ensures ∙ ap (run (a .d) (rowsOf (a .list .now))) (c .before .before .before .before .before .read .ensures)))))  -- returns-2
+    (write-answer (a .n) _ _ (c .before .before .before .before .run-list .result) _ (accepted (c .before .before .before .before .before .before) .fits) (c .before .before .write .ensures) (c .before .before .before .before .run-list .ensures .0 ∙ ap (run (a .d) (rowsOf (a .list .now))) (c .before .before .before .before .before .read .ensures .0)))))  -- returns-2

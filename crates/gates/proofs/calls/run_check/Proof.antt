@@ -20,7 +20,7 @@ past-p : (c : tie.After-enum-told5) → let a = c .before .before .before .befor
 past-p c = orElse-none _ _ (good _ (c .before .before .lent .ensures) (c .enum-told5 .given .1))
 
 past-range : (c : tie.After-enum-told7) → let a = c .before .before .before .before .before .before .before .before .before .before .before .before .before .before .before .args in pauliRangeOf (a .d) (decode (a .n) (a .p .now)) ≡ 0
-past-range c = good _ (rw (c .before .before .before .read .ensures) at (c .before .before .range .ensures)) (c .enum-told7 .given .1)
+past-range c = good _ (rw (c .before .before .before .read .ensures .0) at (c .before .before .range .ensures)) (c .enum-told7 .given .1)
 
 pub run-check-spec : {M : Type 1} → statement M
 run-check-spec = tie.close (tie.spec
@@ -42,7 +42,7 @@ run-check-spec = tie.close (tie.spec
     (λ c. search needs)  -- enum-told-7
     (λ c. search needs)  -- enum-told-8
     (λ c. let p = past-p (c .before .before .before .before) in
-    rw (past-given (c .before .before .before .before .before .before .before .before .before .before), past-rows (c .before .before .before .before .before .before .before), p .0, p .1) (stop _ _ (rw (c .before .before .before .read .ensures) at (c .before .before .range .ensures)) (c .enum-told8 .given .1) .same))  -- returns-4
+    rw (past-given (c .before .before .before .before .before .before .before .before .before .before), past-rows (c .before .before .before .before .before .before .before), p .0, p .1) (stop _ _ (rw (c .before .before .before .read .ensures .0) at (c .before .before .range .ensures)) (c .enum-told8 .given .1) .same))  -- returns-4
     (λ c κs. given-good (past-given (c .before .before .before .before .before .before .before .before .before .before)) .dimension)  -- list-legal-requires
     (λ c. let p = past-p (c .before .before .before .before .before) in
     rw (past-given (c .before .before .before .before .before .before .before .before .before .before .before), past-rows (c .before .before .before .before .before .before .before .before), p .0, p .1, past-range (c .before)) (c .list-legal .ensures)))  -- returns-5

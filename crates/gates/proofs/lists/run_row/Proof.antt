@@ -26,4 +26,4 @@ run-row-spec = tie.close (tie.spec
     (λ c κs. search needs)  -- read-row-requires
     (λ c κs. let a = c .before .before .args in (c .before .before .pre .0 .0, legal-unit (a .d) (a .n) (viewRow (c .read-row .result)) (judged c)))  -- ready-requires
     (λ c κs. let a = c .before .before .before .args in ((c .before .before .before .pre .0 .0, c .before .before .before .pre .0 .1 .0), (ap (λ (x : Row). legalRow (a .d) (a .n) (viewRow x)) (c .ready .ensures .0) ∙ judged (c .before), c .ready .ensures .1)))  -- apply-requires
-    (λ c. let a = c .before .before .before .before .args in c .apply .ensures ∙ ap (λ (w : WrittenRow). apply (a .d) (meant w) (view (a .n) (a .p))) (ap viewRow (c .before .ready .ensures .0) ∙ c .before .before .read-row .ensures)))  -- returns
+    (λ c. let a = c .before .before .before .before .args in (c .apply .ensures .0 ∙ ap (λ (w : WrittenRow). apply (a .d) (meant w) (view (a .n) (a .p))) (ap viewRow (c .before .ready .ensures .0) ∙ c .before .before .read-row .ensures), c .apply .ensures .1)))  -- returns

@@ -1,18 +1,18 @@
--- `pauli::Pauli::commutation` meets its contract: the difference of two reduced sums is that of the sums.
+-- `pauli::Pauli::commutation` meets its contract: 0 where the words share no bit (`disjoint-commute`).
+use mathlib.Core.Path.{sym}
 use native.Mathlib.Omega.{arith}
-use Rattle.pauli.proofs.Change.{commutation-number}
+use Rattle.pauli.proofs.Marks.{view-on, disjoint-commute}
 use borrow.Author.Needs.{needs}
 use Rattle.pauli.proofs.Pauli.commutation.Statement.{statement}
 use Rattle.pauli.proofs.Pauli.commutation.Tie as tie
 
 returns : tie.Need-returns
-returns c = commutation-number _ (omega arith) (c .minus .ensures) (c .before .before .before .reduced .ensures) (c .before .reduced2 .ensures) (c .before .before .before .before .sum-of-products .ensures .0) (c .before .before .sum-of-products2 .ensures .0)
+returns c =
+    let s = c .before .before .before in
+    sym (disjoint-commute _ (omega arith) (view-on _ (s .args .self)) (view-on _ (s .args .other)) (rw (s .pre .1 .0, s .pre .1 .1) at (c .if1 .taken)))
 
 pub commutation-spec : {M : Type 1} → statement M
 commutation-spec = tie.close (tie.spec
-    (λ c κs. search needs)  -- sum-of-products-requires
-    (λ c κs. search needs)  -- reduced-requires
-    (λ c κs. search needs)  -- sum-of-products-requires-2
-    (λ c κs. search needs)  -- reduced-requires-2
-    (λ c κs. search needs)  -- minus-requires
-    returns)
+    returns
+    (λ c κs. search needs)  -- full-commutation-requires
+    (λ c. c .full-commutation .ensures))  -- returns-2

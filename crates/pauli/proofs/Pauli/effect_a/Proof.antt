@@ -8,12 +8,14 @@ use Rattle.pauli.proofs.Pauli.effect_a.Statement.{statement}
 use Rattle.pauli.proofs.Pauli.effect_a.Tie as tie
 
 returns : tie.Need-returns
-returns c n li lj m =
+returns c =
     let e = c .before .before in
     let s = e .before .before in
-    let a = s .args in
-    c .placed2 .ensures n lj m ∙ ap (placed (a .j) _ _ _) (c .before .placed .ensures n li m)
-    ∙ sym (e .effect-a .ensures (a .i) (a .j) (view n (a .self)) (s .pre .1 .1 .1) (view-has (a .self) li) (view-has (a .self) lj) (sym (e .before .touched .ensures n li lj)) .replaces)
+    let a = s .args in (
+      λ n li lj m. c .placed2 .ensures .0 n lj m ∙ ap (placed (a .j) _ _ _) (c .before .placed .ensures .0 n li m)
+          ∙ sym (e .effect-a .ensures (a .i) (a .j) (view n (a .self)) (s .pre .1 .1 .1) (view-has (a .self) li) (view-has (a .self) lj) (sym (e .before .touched .ensures n li lj)) .replaces),
+      λ n li lj m t. c .placed2 .ensures .1 n lj m (c .before .placed .ensures .1 n li m t),
+    )
 
 pub effect-a-spec : {M : Type 1} → statement M
 effect-a-spec = tie.close (tie.spec

@@ -7,9 +7,9 @@ use Rattle.pauli.proofs.Pauli.effect_x.Statement.{statement}
 use Rattle.pauli.proofs.Pauli.effect_x.Tie as tie
 
 returns : tie.Need-returns
-returns c n l m =
+returns c =
     let a = c .before .before .before .args in
-    c .placed .ensures n l m ∙ sym (placed-one (c .before .effect-x .ensures (a .i) (view n (a .self)) (view-has (a .self) l) (sym (c .before .before .touched .ensures n l l))))
+    (λ n l m. c .placed .ensures .0 n l m ∙ sym (placed-one (c .before .effect-x .ensures (a .i) (view n (a .self)) (view-has (a .self) l) (sym (c .before .before .touched .ensures n l l)))), c .placed .ensures .1)
 
 pub effect-x-spec : {M : Type 1} → statement M
 effect-x-spec = tie.close (tie.spec

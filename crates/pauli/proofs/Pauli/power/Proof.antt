@@ -47,11 +47,13 @@ returns c =
     let h = c .before .before in
     let t = h .before .before in
     let m = t .before .before .before in
-    let s = m .before .before .before .before in
-    c .scaled .ensures
-    ∙ pauli-path (power-phase _ _ _ (omega arith) (rw (h .value2 .ensures, t .value .ensures) at (c .before .reduced2 .ensures)) (t .before .ordered-pairs .ensures .0) (m .reduced .ensures) (m .before .sum-of-products .ensures .0))
-    (sym (scaled-tab _ _ _ _)) (sym (scaled-tab _ _ _ _))
-    ∙ sym (power-closed (s .args .d) (s .args .n) (s .args .k .0) (omega arith) (s .pre .1))
+    let s = m .before .before .before .before in (
+      c .scaled .ensures .0
+          ∙ pauli-path (power-phase _ _ _ (omega arith) (rw (h .value2 .ensures, t .value .ensures) at (c .before .reduced2 .ensures)) (t .before .ordered-pairs .ensures .0) (m .reduced .ensures) (m .before .sum-of-products .ensures .0))
+          (sym (scaled-tab _ _ _ _)) (sym (scaled-tab _ _ _ _))
+          ∙ sym (power-closed (s .args .d) (s .args .n) (s .args .k .0) (omega arith) (s .pre .1)),
+      c .scaled .ensures .1,
+    )
 
 pub power-spec : {M : Type 1} → statement M
 power-spec = tie.close (tie.spec

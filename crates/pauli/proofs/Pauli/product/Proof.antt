@@ -18,9 +18,11 @@ product-phase d a b {x = x} pos e f g h = rw (e, f, g, h) (reduced-sum d a b x p
 
 returns : tie.Need-returns
 returns c =
-    let sum = c .before .before .before .before .before in
-    c .summed .ensures
-    ∙ pauli-path (product-phase _ _ _ (omega arith) (c .before .plus2 .ensures) (c .before .before .plus .ensures) (sum .reduced .ensures) (sum .before .sum-of-products .ensures .0)) refl refl
+    let sum = c .before .before .before .before .before in (
+      c .summed .ensures .0
+          ∙ pauli-path (product-phase _ _ _ (omega arith) (c .before .plus2 .ensures) (c .before .before .plus .ensures) (sum .reduced .ensures) (sum .before .sum-of-products .ensures .0)) refl refl,
+      c .summed .ensures .1,
+    )
 
 pub product-spec : {M : Type 1} → statement M
 product-spec = tie.close (tie.spec

@@ -1,10 +1,11 @@
--- `pauli::Pauli::read` meets its contract, part by part: its numbers are the bytes', from the first place on.
-use mathlib.Core.Path.{_≡_, refl, ap, _∙_}
+-- `pauli::Pauli::read` meets its contract, part by part: its numbers are the bytes', from the first place on, and its word is theirs.
+use mathlib.Core.Path.{_≡_, refl, sym, ap, ap₂, _∙_}
 use mathlib.Core.List.{List}
 use Prim.Native.Nat.{ℕ, _+_, _*_, _≤_, _<_}
 use lib.ListN.{getD}
 use Rattle.arith.specs.Bytes.{tab, numberAt, numbersAt}
 use Rattle.arith.proofs.Bytes.{tab-ext}
+use Rattle.pauli.specs.Support.{marks, wordOf}
 use Rattle.pauli.proofs.Ranges.{pauli-path}
 use native.Mathlib.Omega.{arith}
 use borrow.Author.Needs.{needs}
@@ -17,13 +18,15 @@ taken a b k n s t h l e = tab-ext (λ i. getD a (s + i) 0) (λ i. numberAt b (t 
 
 returns : tie.Need-returns
 returns c =
-    let a = c .before .before .before .before .before .before .before .args in
-    let r = c .before .before .before .before .before .read-numbers .result in
-    let e = c .before .before .before .before .before .read-numbers .ensures in
+    let w = c .before .before in
+    let v = w .before .before in
+    let r = v .before .before .read-numbers .result in
+    let e = v .before .before .read-numbers .ensures in
+    let a = v .before .before .before .before .args in
     let z : a .k + 0 ≡ a .k = omega arith in
-    pauli-path (c .lent .ensures ∙ e 0 (omega arith) ∙ ap (numberAt (a .b .now)) z)
-    (c .before .before .before .entries-from .ensures (a .n) (omega arith) ∙ taken r (a .b .now) (a .k) (a .n) 1 (a .k + 1) e (omega arith) refl)
-    (c .before .entries-from2 .ensures (a .n) (omega arith) ∙ taken r (a .b .now) (a .k) (a .n) (1 + a .n) (a .k + 1 + a .n) e (omega arith) (omega arith))
+    let vs = v .entries-from .ensures (a .n) (omega arith) ∙ taken r (a .b .now) (a .k) (a .n) 1 (a .k + 1) e (omega arith) refl in
+    let ws = w .entries-from2 .ensures (a .n) (omega arith) ∙ taken r (a .b .now) (a .k) (a .n) (1 + a .n) (a .k + 1 + a .n) e (omega arith) (omega arith) in
+    (pauli-path (c .lent .ensures ∙ e 0 (omega arith) ∙ ap (numberAt (a .b .now)) z) vs ws, c .before .word-at .ensures ∙ ap wordOf (sym (ap₂ marks vs ws)))
 
 pub read-spec : {M : Type 1} → statement M
 read-spec = tie.close (tie.spec
@@ -33,6 +36,8 @@ read-spec = tie.close (tie.spec
     (λ c κs. search needs)  -- entries-from-requires
     (λ c. search needs)  -- add-entries-from
     (λ c κs. search needs)  -- entries-from-requires-2
+    (λ c. search needs)  -- add-word-at
+    (λ c κs. search needs)  -- word-at-requires
     (λ c. search needs)  -- array-read-lent
     (λ c κs. search needs)  -- lent-requires
     returns)

@@ -17,7 +17,7 @@ passed c = good _ (c .before .before .commutation-check .ensures) (c .enum-told 
 
 -- what the check of 5 finds
 ranged : (c : tie.After-pair-range) → let a = c .before .before .before .before .before .before .before .before .args in numberOf (c .pair-range .result) ≡ pairRangeOf (a .d) (decode (a .n) (a .p .now)) (decode (a .n) (a .q .now))
-ranged c = rw (c .before .before .read .ensures, c .before .read2 .ensures) at (c .pair-range .ensures)
+ranged c = rw (c .before .before .read .ensures .0, c .before .read2 .ensures .0) at (c .pair-range .ensures)
 
 returns : tie.Need-returns
 returns c = stop-answered _ (stop-at _ _ (after-pair _ _ _ _ _) (c .before .before .before .commutation-check .ensures) (c .before .enum-told2 .given .1)) (c .refused .ensures)
@@ -33,7 +33,7 @@ returns-3 c =
     answered
     (past _ _ (after-pair _ _ _ _ _) (passed (r .before .before .before)) ∙ good _ (ranged r) (c .before .before .enum-told3 .given .1))
     refl
-    (c .value .ensures ∙ c .before .commutation .ensures ∙ ap₂ (comm _) (r .before .before .read .ensures) (r .before .read2 .ensures))
+    (c .value .ensures ∙ c .before .commutation .ensures ∙ ap₂ (comm _) (r .before .before .read .ensures .0) (r .before .read2 .ensures .0))
 
 pub commutation-spec : {M : Type 1} → statement M
 commutation-spec = tie.close (tie.spec

@@ -18,7 +18,7 @@ passed c = good _ (c .before .before .power-check .ensures) (c .enum-told .given
 
 -- what the check of 5 finds
 ranged : (c : tie.After-range) → let a = c .before .before .before .before .before .before .before .args in numberOf (c .range .result) ≡ pauliRangeOf (a .d) (decode (a .n) (a .p .now))
-ranged c = rw (c .before .read .ensures) at (c .range .ensures)
+ranged c = rw (c .before .read .ensures .0) at (c .range .ensures)
 
 returns : tie.Need-returns
 returns c = stop-written _ _ (stop-at _ _ (after-output _ _ _ _ _) (c .before .before .before .power-check .ensures) (c .before .enum-told2 .given .1)) (c .number .ensures)
@@ -32,7 +32,7 @@ power-requires : tie.Need-power-requires
 power-requires c κs =
     let r = c .before .before in
     let z = output-lent _ _ _ _ (passed (r .before .before)) in
-    (search needs, rw (r .before .read .ensures) (decode-range 0 _ (good _ (ranged r) (c .enum-told3 .given .1))))
+    (search needs, rw (r .before .read .ensures .0) (decode-range 0 _ (good _ (ranged r) (c .enum-told3 .given .1))))
 
 returns-3 : tie.Need-returns-3
 returns-3 c =
@@ -42,7 +42,7 @@ returns-3 c =
     written
     (past _ _ (after-output _ _ _ _ _) (passed (r .before .before)) ∙ good _ (ranged r) (w .before .enum-told3 .given .1))
     refl
-    (write-answer _ _ _ (w .power .result) _ (output-lent _ _ _ _ (passed (r .before .before)) .1 .1) (c .before .before .write .ensures) (w .power .ensures ∙ ap (λ (p : Pauli). power (a .d) (a .n) p (a .k)) (r .before .read .ensures)))
+    (write-answer _ _ _ (w .power .result) _ (output-lent _ _ _ _ (passed (r .before .before)) .1 .1) (c .before .before .write .ensures) (w .power .ensures .0 ∙ ap (λ (p : Pauli). power (a .d) (a .n) p (a .k)) (r .before .read .ensures .0)))
 
 pub power-spec : {M : Type 1} → statement M
 power-spec = tie.close (tie.spec

@@ -18,7 +18,7 @@ passed c = good _ (c .before .before .product-check .ensures) (c .enum-told .giv
 
 -- what the check of 5 finds
 ranged : (c : tie.After-pair-range) → let a = c .before .before .before .before .before .before .before .before .before .args in numberOf (c .pair-range .result) ≡ pairRangeOf (a .d) (decode (a .n) (a .p .now)) (decode (a .n) (a .q .now))
-ranged c = rw (c .before .before .read .ensures, c .before .read2 .ensures) at (c .pair-range .ensures)
+ranged c = rw (c .before .before .read .ensures .0, c .before .read2 .ensures .0) at (c .pair-range .ensures)
 
 returns : tie.Need-returns
 returns c = stop-written _ _ (stop-at _ _ (after-pairOutput _ _ _ _ _ _) (c .before .before .before .product-check .ensures) (c .before .enum-told2 .given .1)) (c .number .ensures)
@@ -35,7 +35,7 @@ returns-3 c =
     written
     (past _ _ (after-pairOutput _ _ _ _ _ _) (passed (r .before .before .before)) ∙ good _ (ranged r) (w .before .enum-told3 .given .1))
     refl
-    (write-answer _ _ _ (w .product .result) _ (pairOutput-lent _ _ _ _ _ (passed (r .before .before .before)) .1 .1 .1) (c .before .before .write .ensures) (w .product .ensures ∙ ap₂ (product _) (r .before .before .read .ensures) (r .before .read2 .ensures)))
+    (write-answer _ _ _ (w .product .result) _ (pairOutput-lent _ _ _ _ _ (passed (r .before .before .before)) .1 .1 .1) (c .before .before .write .ensures) (w .product .ensures .0 ∙ ap₂ (product _) (r .before .before .read .ensures .0) (r .before .read2 .ensures .0)))
 
 pub product-spec : {M : Type 1} → statement M
 product-spec = tie.close (tie.spec

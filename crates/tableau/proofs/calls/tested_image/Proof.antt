@@ -17,7 +17,7 @@ use Rattle.tableau.proofs.calls.tested_image.Tie as tie
 found : (c : tie.After-image-tests) → let a = c .before .before .before .before .before .before .before .before .args in numberOf (c .image-tests .result) ≡ imageTests (a .d) (a .n) (decodeTableau (a .n) (a .tableau .now)) (decode (a .n) (a .p .now))
 found c =
     let a = c .before .before .before .before .before .before .before .before .args in
-    c .image-tests .ensures ∙ ap₂ (imageTests (a .d) (a .n)) (c .before .before .before .read-into .ensures .0) (c .before .before .read .ensures)
+    c .image-tests .ensures ∙ ap₂ (imageTests (a .d) (a .n)) (c .before .before .before .read-into .ensures .0) (c .before .before .read .ensures .0)
 
 returns : tie.Need-returns
 returns c = stop-written _ _ (stop-last _ (found (c .before .before .before)) (c .before .enum-told2 .given .1)) (c .number .ensures)
@@ -32,7 +32,7 @@ returns-2 : tie.Need-returns-2
 returns-2 c =
     let s = c .before .before .before .before .before .before .before .before .before .before .before .before .before .before .before .before in
     let a = s .args in
-    let made = c .before .before .before .before .image .ensures ∙ ap₂ (image (a .d) (a .n)) (c .before .before .before .before .before .before .before .before .before .before .before .read-into .ensures .0) (c .before .before .before .before .before .before .before .before .before .before .read .ensures) in
+    let made = c .before .before .before .before .image .ensures .0 ∙ ap₂ (image (a .d) (a .n)) (c .before .before .before .before .before .before .before .before .before .before .before .read-into .ensures .0) (c .before .before .before .before .before .before .before .before .before .before .read .ensures .0) in
     written (good _ (found (c .before .before .before .before .before .before .before .before)) (c .before .before .before .before .before .before .enum-told .given .1)) refl (write-answer (a .n) _ _ (c .before .before .before .before .image .result) _ (s .pre .1 .1 .1) (c .before .before .write .ensures) made)
 
 pub tested-image-spec : {M : Type 1} → statement M

@@ -28,10 +28,10 @@ loop-holds c =
 
 returns : tie.Need-returns Inv-loop μ-loop
 unfolding parityOf
-returns c = test-refused Parity _ (c .before .before .before .before .loop .inv .1 ∙ all-fail _ _ _ (c .before .before .before .loop-test .taken) (ne-eqb _ 0 (λ e. c .if1 .taken (c .before .parity .ensures ∙ ap (parity _) (c .before .before .column .ensures _ (omega arith) (omega arith)) ∙ e))))
+returns c = test-refused Parity _ (c .before .before .before .before .loop .inv .1 ∙ all-fail _ _ _ (c .before .before .before .loop-test .taken) (ne-eqb _ 0 (λ e. c .if1 .taken (c .before .parity .ensures ∙ ap (parity _) (c .before .before .column .ensures .0) ∙ e))))
 
 loop-again : tie.Need-loop-again Inv-loop μ-loop
-loop-again c = (omega arith, c .before .before .before .before .loop .inv .1 ∙ all-pass _ _ _ (c .before .before .before .loop-test .taken) (eq-eqb _ 0 (ap (parity _) (sym (c .before .before .column .ensures _ (omega arith) (omega arith))) ∙ sym (c .before .parity .ensures) ∙ c .if1 .left)))
+loop-again c = (omega arith, c .before .before .before .before .loop .inv .1 ∙ all-pass _ _ _ (c .before .before .before .loop-test .taken) (eq-eqb _ 0 (ap (parity _) (sym (c .before .before .column .ensures .0)) ∙ sym (c .before .parity .ensures) ∙ c .if1 .left)))
 
 returns-2 : tie.Need-returns-2 Inv-loop μ-loop
 unfolding parityOf

@@ -22,13 +22,13 @@ returns : tie.Need-returns Inv-loop μ-loop
 returns c =
     let a = c .before .before .before .before .before .before .args in
     let e = c .before .before .before .before .before .loop .inv .1 ∙ ranges-step (a .d) (a .n) (tableView (a .n) (a .t .now)) (c .before .before .before .before .before .loop .j) (omega (arith, table-length (a .n) (a .t .now))) in
-    rw e (stop _ _ (rw (c .before .before .before .column .ensures (a .n) (omega arith) (omega arith)) at (c .before .before .range .ensures)) (c .enum-told2 .given .1) .same)
+    rw e (stop _ _ (rw (c .before .before .before .column .ensures .0) at (c .before .before .range .ensures)) (c .enum-told2 .given .1) .same)
 
 loop-again : tie.Need-loop-again Inv-loop μ-loop
 loop-again c =
     let a = c .before .before .before .before .before .before .args in
     let e = c .before .before .before .before .before .loop .inv .1 ∙ ranges-step (a .d) (a .n) (tableView (a .n) (a .t .now)) (c .before .before .before .before .before .loop .j) (omega (arith, table-length (a .n) (a .t .now))) in
-    (omega arith, rw (good _ (rw (c .before .before .before .column .ensures (a .n) (omega arith) (omega arith)) at (c .before .before .range .ensures)) (c .enum-told .given .1)) at e)
+    (omega arith, rw (good _ (rw (c .before .before .before .column .ensures .0) at (c .before .before .range .ensures)) (c .enum-told .given .1)) at e)
 
 returns-2 : tie.Need-returns-2 Inv-loop μ-loop
 returns-2 c =

@@ -13,8 +13,9 @@ use Rattle.tableau.proofs.maps.preimage.Tie as tie
 returns : tie.Need-returns
 returns c =
     let a = c .before .before .before .before .before .before .args in
-    let e = c .before .before .before .before .before .drawn .ensures in
-    pauli-path (c .before .before .minus .ensures ∙ ap (λ (x : Pauli). (a .q .phase .0 + neg (2 * a .d) (x .phase)) % (2 * a .d)) (c .before .before .before .before .image .ensures ∙ ap (image (a .d) (a .n) (tableView (a .n) (a .t .now))) e)) (ap (λ (x : Pauli). x .v) e) (ap (λ (x : Pauli). x .w) e)
+    let drawn = c .before .before .before .before .before .drawn .ensures in
+    let e = drawn .0 in
+    (pauli-path (c .before .before .minus .ensures ∙ ap (λ (x : Pauli). (a .q .phase .0 + neg (2 * a .d) (x .phase)) % (2 * a .d)) (c .before .before .before .before .image .ensures .0 ∙ ap (image (a .d) (a .n) (tableView (a .n) (a .t .now))) e)) (ap (λ (x : Pauli). x .v) e) (ap (λ (x : Pauli). x .w) e), drawn .1)
 
 pub preimage-spec : {M : Type 1} → statement M
 preimage-spec = tie.close (tie.spec

@@ -37,7 +37,7 @@ loop-again c =
     let l = c .before .before .before .before .before .before .before .loop in
     let f = c .before .before .before .before .before .before .before .before .before .pre .1 .0 in
     let pos : 0 < a .d = omega (arith, c .before .before .before .before .before .before .before .before .before .pre .0) in
-    (omega arith, columns-next (a .n) (mapped (a .first .now) (a .second .now) (a .d) (a .n)) (l .j) (λ i. numbers-length (image-range pos (f .1 .ranges) (column-range i pos (f .0 .ranges)))) (c .before .before .before .before .image .ensures ∙ ap (image (a .d) (a .n) (tableView (a .n) (a .second .now))) (c .before .before .before .before .before .column .ensures (a .n) (omega arith) (omega arith))) (l .inv .1) (c .before .before .write-column .ensures))
+    (omega arith, columns-next (a .n) (mapped (a .first .now) (a .second .now) (a .d) (a .n)) (l .j) (λ i. numbers-length (image-range pos (f .1 .ranges) (column-range i pos (f .0 .ranges)))) (c .before .before .before .before .image .ensures .0 ∙ ap (image (a .d) (a .n) (tableView (a .n) (a .second .now))) (c .before .before .before .before .before .column .ensures .0)) (l .inv .1) (c .before .before .write-column .ensures))
 
 returns : tie.Need-returns Inv-loop μ-loop
 returns c =

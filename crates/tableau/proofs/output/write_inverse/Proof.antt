@@ -35,7 +35,7 @@ loop-again c =
     let l = c .before .before .before .before .before .before .before .loop in
     let f = c .before .before .before .before .before .before .before .before .before .pre .1 .0 in
     let one : 1 < a .d = omega (arith, c .before .before .before .before .before .before .before .before .before .pre .0) in
-    (omega arith, columns-next (a .n) (undone (a .t .now) (a .d) (a .n)) (l .j) (λ i. numbers-length (preimage-range one (f .0) (f .1) (unit (a .n) i) (unit-range (a .d) (a .n) i one))) (c .before .before .before .before .preimage .ensures ∙ ap (preimage (a .d) (a .n) (tableView (a .n) (a .t .now))) (c .before .before .before .before .before .unit .ensures)) (l .inv .1) (c .before .before .write-column .ensures))
+    (omega arith, columns-next (a .n) (undone (a .t .now) (a .d) (a .n)) (l .j) (λ i. numbers-length (preimage-range one (f .0) (f .1) (unit (a .n) i) (unit-range (a .d) (a .n) i one))) (c .before .before .before .before .preimage .ensures .0 ∙ ap (preimage (a .d) (a .n) (tableView (a .n) (a .t .now))) (c .before .before .before .before .before .unit .ensures .0)) (l .inv .1) (c .before .before .write-column .ensures))
 
 returns : tie.Need-returns Inv-loop μ-loop
 returns c =

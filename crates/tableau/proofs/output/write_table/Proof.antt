@@ -27,7 +27,7 @@ loop-again c =
     let s = c .before .before .before .before .before .before .before .before in
     let a = s .args in
     let l = c .before .before .before .before .before .before .loop in
-    let read = c .before .before .before .before .column .ensures (a .n) (s .pre .0) (omega arith) ∙ view-column (a .n) (a .t .now) (l .j) (omega arith) in
+    let read = c .before .before .before .before .column .ensures .0 ∙ view-column (a .n) (a .t .now) (l .j) (omega arith) in
     (omega arith, columns-next (a .n) (seen (a .t .now) (a .n)) (l .j) (λ k. view-length (a .n) (getD (a .t .now) k [])) read (l .inv .1) (c .before .before .write-column .ensures))
 
 returns : tie.Need-returns Inv-loop μ-loop
