@@ -14,13 +14,13 @@ use Rattle.arith.specs.Residues.{neg}
 use Rattle.arith.proofs.Cases.{by-eq}
 use Rattle.arith.proofs.Remainders.{neg-zero}
 use Rattle.arith.proofs.Bytes.{tab-list, tab-length, tab-at, tab-more}
-use Rattle.pauli.specs.Pauli.{Pauli, Below, none, more, dot, comm, phaseOnly, unitX, unitZ}
+use Rattle.pauli.specs.Pauli.{Pauli, Below, none, more, dot, comm, unitX, unitZ}
 use Rattle.pauli.specs.declared.Pauli.{Pauli as Code}
 use Rattle.pauli.specs.inner.View.{at, view}
 use Rattle.pauli.specs.inner.Words.{Joins, Changes}
 use Rattle.pauli.specs.Support.{mark, marks, wordOf, supportOf, touchedOf}
 use Rattle.pauli.proofs.Lists.{cons-path, zeros-length, getD-zeros, set-back}
-use Rattle.pauli.proofs.Words.{lowest, higher, word-below, word-bit, word-ones, word-zeros, word-single}
+use Rattle.pauli.proofs.Words.{lowest, higher, word-below, word-bit, word-ones, word-single}
 
 -- ---- the mark of a qudit
 pub mark-below : (x z : ℕ) → mark x z < 2
@@ -119,10 +119,7 @@ support-exactly {p = p} i o l = rw (support-bit i o l) (mark-exactly (getD (p .v
 pub support-below : {n : ℕ} {p : Pauli} → On n p → supportOf p < 2 ^ n
 support-below {p = p} o = rw (sym (marks-many o)) (word-below (marks-below (p .v) (p .w)))
 
--- a phase alone touches none, a unit Pauli one
-pub phase-word : (n h : ℕ) → supportOf (phaseOnly n h) ≡ 0
-phase-word n h = ap wordOf (marks-zeros n) ∙ word-zeros n
-
+-- a unit Pauli touches one
 single-word : (n i x z : ℕ) → i < n → mark x z ≡ 1 → wordOf (marks (set (replicate n 0) i x) (set (replicate n 0) i z)) ≡ 2 ^ i
 single-word n i x z l e =
     let within : i < length (replicate {A = ℕ} n 0) = rw (zeros-length n) l in

@@ -1,14 +1,14 @@
-// Operations on Paulis: products, powers, commutation numbers, and the Paulis that these start from. The Pauli in work is one value that each takes and hands on.
+// Operations on Paulis: products, powers, commutation numbers, and the unit Paulis. The Pauli in work is one value that each takes and hands on.
 use crate::Pauli;
 use arith::checks::Check;
 use arith::residue::Phase;
 use arith::residue::Power;
 use arith::residue::Residue;
 ghost use mathlib.Core.Path.{_≡_};
-ghost use Prim.Native.Nat.{ℕ, _*_, _-_, _%_, _≤_, _<_};
+ghost use Prim.Native.Nat.{_*_, _-_, _%_, _≤_, _<_};
 ghost use Rattle.arith.specs.Bytes.{tab};
 ghost use Rattle.arith.specs.Refusals.{Dimension, numberOf};
-ghost use Rattle.pauli.specs.Pauli.{InRange, plus, product, phaseOnly, power, comm, unit, parity};
+ghost use Rattle.pauli.specs.Pauli.{InRange, plus, product, power, comm, unit, parity};
 ghost use Rattle.pauli.specs.Range.{pauliRangeOf, pairRangeOf};
 ghost use Rattle.pauli.specs.inner.View.{at, entries, view, WordTrue};
 
@@ -21,19 +21,6 @@ fn ordered_pairs(k: Power) -> u64
 }
 
 impl Pauli {
-    // A phase and nothing else.
-    pub fn phase_only(h: Phase) -> Pauli
-        ensures { λ r. ⌜ ((n : ℕ) → view n r ≡ phaseOnly n (h .0)) ⌝ }
-        ensures { λ r. ⌜ ((n : ℕ) → WordTrue n r) ⌝ }
-    {
-        Pauli {
-            phase: h,
-            v: [Residue::ZERO; 16],
-            w: [Residue::ZERO; 16],
-            support: 0,
-        }
-    }
-
     // Unit Pauli j, counted from 0: v at j is 1 below n, w at j − n is 1 from n on.
     pub fn unit(j: usize, n: usize) -> Pauli
         requires { ⌜ (n ≤ 16) × (j < 2 * n) ⌝ }

@@ -15,5 +15,6 @@ pub mod Products
 pub mod Run
 pub mod Tests
 pub mod Units
+pub mod Unreduced
 pub mod Shapes
 pub mod Views

@@ -4,4 +4,5 @@ pub mod calls;
 pub mod checks;
 pub mod maps;
 pub mod output;
+pub mod sums;
 pub mod table;

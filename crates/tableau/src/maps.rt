@@ -36,13 +36,13 @@ pub fn image(t: &[[u16; 33]; 32], p: Pauli, d: u16, n: usize) -> Pauli
     ensures { λ r. ⌜ WordTrue n r ⌝ }
 {
     let m = 2 * n;
-    let phase = p.phase;
-    let mut out = Pauli::phase_only(phase);
+    let mut phase = p.phase;
+    let mut sums = [0u32; 32];
     for j in 0..m {
-        let factor = crate::table::column(t, j, n).power(exponent(p, j, n), d, n);
-        out = out.product(factor, d, n);
+        let k = exponent(p, j, n);
+        phase = crate::sums::multiply(&mut sums, phase, &t[j], k, d, n);
     }
-    out
+    crate::sums::reduced(&sums, phase, d, n)
 }
 
 // The entries of the Pauli whose image is q up to the phase: v at i is minus the commutation number of q with column n + i, w at i that with column i.
