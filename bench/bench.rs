@@ -2,10 +2,10 @@
 //! the stack that each call of the library uses, and the rows of synthesis, as
 //! one Markdown table. BENCH_MS is the least time of a round.
 //!
-//! Then, in tables of their own, the least multiplier where its search is
-//! longest, how long the lists of the library's synthesis are, and what time it
-//! takes on 16 qudits. The lists are counted without a clock, so those figures
-//! are the same in every run.
+//! Then, in tables of their own, a batch of Paulis against single calls, the
+//! least multiplier where its search is longest, how long the lists of the
+//! library's synthesis are, and what time it takes on 16 qudits. The lists are
+//! counted without a clock, so those figures are the same in every run.
 
 use library::{library, reference as reference_call, Layout, Lent, Name, Numbers, NAMES};
 use reference::random::Random;
@@ -14,8 +14,11 @@ use std::hint::black_box;
 
 /// Different inputs for each line of the table, used in turn.
 const INPUTS: usize = 16;
+/// Fewer where each is a batch, which takes long.
+const BATCHES: usize = 2;
 const LIST_ROWS: usize = 64;
 const MOST_QUDITS: u16 = 16;
+const WIDTHS: [u16; 3] = [1, 4, MOST_QUDITS];
 const DIMENSIONS: [u16; 3] = [2, 6, 1024];
 const ROUNDS: u32 = 15;
 
@@ -26,11 +29,20 @@ struct Input {
     second: Vec<u8>,
 }
 
+impl Input {
+    fn room(&self) -> usize {
+        self.name.room(self.numbers.n as usize, self.second.len())
+    }
+}
+
 fn input(name: Name, d: u16, n: u16, random: &mut Random) -> Input {
     let (dim, wide) = (d as i64, n as usize);
     let mut lent = name.inputs().iter().map(|layout| match layout {
         Layout::Pauli => calls::bytes_of_pauli(&random.pauli(dim, wide)),
         Layout::Tableau => calls::bytes_of_tableau(&random.dense_tableau(dim, wide)),
+        Layout::Batch => (0..calls::MOST_PAULIS)
+            .flat_map(|_| calls::bytes_of_pauli(&random.pauli(dim, wide)))
+            .collect(),
         Layout::List => random.list_bytes(LIST_ROWS, dim, wide),
     });
     let first = lent.next().unwrap_or_default();
@@ -70,6 +82,22 @@ fn call_reference(input: &Input, out: &mut [u8]) -> calls::Answer {
     reference_call(input.name, input.numbers, &input.first, &input.second, out)
 }
 
+/// A single call of the library for each Pauli of a batch, in order.
+fn call_library_singly(batch: &Input, out: &mut [u8]) -> calls::Answer {
+    let pauli = calls::pauli_len(batch.numbers.n as usize);
+    let tableau = Lent::input(&batch.first);
+    let mut last = calls::Answer {
+        number: 0,
+        value: 0,
+    };
+    for (p, image) in batch.second.chunks(pauli).zip(out.chunks_mut(pauli)) {
+        let (p, image) = (Lent::input(p), Lent::output(image));
+        last = unsafe { library(Name::Image, batch.numbers, tableau, p, image) };
+        assert_eq!(last.number, 0, "a bench call was refused");
+    }
+    last
+}
+
 type Call = fn(&Input, &mut [u8]) -> calls::Answer;
 
 /// Processor time of this thread: what else runs on the machine counts less
@@ -101,18 +129,19 @@ fn calls_per_second(call: Call, inputs: &[Input], out: &mut [u8], time: f64) -> 
     }
 }
 
-/// Both sides in turn, several times; the best of each.
-fn both(inputs: &[Input], out: &mut [u8], time: f64) -> (f64, f64) {
+/// Two sides in turn, several times; the best of each.
+fn best_of(sides: [Call; 2], inputs: &[Input], out: &mut [u8], time: f64) -> (f64, f64) {
     let mut best = (0.0_f64, 0.0_f64);
     for _ in 0..ROUNDS {
-        best.0 = best
-            .0
-            .max(calls_per_second(call_library, inputs, out, time));
-        best.1 = best
-            .1
-            .max(calls_per_second(call_reference, inputs, out, time));
+        best.0 = best.0.max(calls_per_second(sides[0], inputs, out, time));
+        best.1 = best.1.max(calls_per_second(sides[1], inputs, out, time));
     }
     best
+}
+
+/// The library and the reference.
+fn both(inputs: &[Input], out: &mut [u8], time: f64) -> (f64, f64) {
+    best_of([call_library, call_reference], inputs, out, time)
 }
 
 // ---------------------------------------------------------------------- stack
@@ -193,8 +222,12 @@ type Draw = fn(Name, u16, u16, &mut Random) -> Input;
 /// A line of the table for calls with drawn inputs.
 fn print_line(what: &str, name: Name, d: u16, n: u16, draw: Draw, time: f64) {
     let mut random = Random::new(1, (d as u64) << 16 | n as u64);
-    let inputs: Vec<Input> = (0..INPUTS).map(|_| draw(name, d, n, &mut random)).collect();
-    let mut out = vec![0; name.room(n as usize)];
+    let count = match name {
+        Name::Images => BATCHES,
+        _ => INPUTS,
+    };
+    let inputs: Vec<Input> = (0..count).map(|_| draw(name, d, n, &mut random)).collect();
+    let mut out = vec![0; inputs[0].room()];
     let (own, other) = both(&inputs, &mut out, time);
     let stack = inputs
         .iter()
@@ -224,9 +257,10 @@ fn print_line(what: &str, name: Name, d: u16, n: u16, draw: Draw, time: f64) {
 
 fn print_calls(milliseconds: u32) {
     println!(
-        "Lists have {LIST_ROWS} rows, tableaus few zeros. Disjoint Paulis touch no qudit in \
-         common. Outputs are not cleared between calls. Both sides are built for release; best of \
-         {ROUNDS} rounds of at least {milliseconds} ms of processor time.\n"
+        "Lists have {LIST_ROWS} rows, batches {} Paulis, tableaus few zeros. Disjoint Paulis touch \
+         no qudit in common. Outputs are not cleared between calls. Both sides are built for \
+         release; best of {ROUNDS} rounds of at least {milliseconds} ms of processor time.\n",
+        calls::MOST_PAULIS
     );
     println!(
         "| call | n | d | library, calls/s | reference, calls/s | ratio | stack, bytes \
@@ -235,7 +269,7 @@ fn print_calls(milliseconds: u32) {
     println!("|---|---|---|---|---|---|---|---|---|");
     let time = milliseconds as f64 / 1000.0;
     for name in NAMES {
-        for n in [1, 4, MOST_QUDITS] {
+        for n in WIDTHS {
             if name == Name::LeastMultiplier && n > 1 {
                 continue; // it takes no n
             }
@@ -249,6 +283,39 @@ fn print_calls(milliseconds: u32) {
                 print_line(&what, name, d, MOST_QUDITS, disjoint_paulis, time);
             }
         }
+    }
+}
+
+// -------------------------------------------------------------------- batches
+
+fn print_batches(time: f64) {
+    println!("\n## A batch against single calls\n");
+    println!(
+        "Microseconds for the images of {} Paulis under one tableau, by one call of \
+         `clifford_images` and by a call of `clifford_image` for each, both of the library; the \
+         mean over {BATCHES} tableaus, best of {ROUNDS} rounds of processor time.\n",
+        calls::MOST_PAULIS
+    );
+    println!("| n | d | a batch, µs | single calls, µs | ratio |");
+    println!("|---|---|---|---|---|");
+    for (n, d) in WIDTHS.iter().flat_map(|&n| DIMENSIONS.map(|d| (n, d))) {
+        let mut random = Random::new(5, (d as u64) << 16 | n as u64);
+        let batches: Vec<Input> = (0..BATCHES)
+            .map(|_| input(Name::Images, d, n, &mut random))
+            .collect();
+        let mut out = vec![0; batches[0].room()];
+        let (own, single) = best_of(
+            [call_library, call_library_singly],
+            &batches,
+            &mut out,
+            time,
+        );
+        println!(
+            "| {n} | {d} | {:.1} | {:.1} | {:.2} |",
+            1e6 / own,
+            1e6 / single,
+            own / single
+        );
     }
 }
 
@@ -380,7 +447,7 @@ fn list_cells(inputs: &[Input]) -> String {
     let counts: Vec<[usize; 4]> = inputs
         .iter()
         .map(|input| {
-            let mut out = vec![0; input.name.room(input.numbers.n as usize)];
+            let mut out = vec![0; input.room()];
             let answer = call_library(input, &mut out);
             assert_eq!(answer.number, 0, "a bench call was refused");
             let rows = calls::rows_of_bytes(&out[..calls::ROW_LEN * answer.value as usize]);
@@ -467,7 +534,7 @@ fn print_time_of_synthesis(time: f64) {
     );
     println!("| d | library, µs | reference, µs | ratio |");
     println!("|---|---|---|---|");
-    let mut out = vec![0; Name::Synthesis.room(n as usize)];
+    let mut out = vec![0; calls::synthesis_room(n as usize)];
     for d in RANDOM_DIMENSIONS {
         let (own, other) = both(&random_tableaus(d, n), &mut out, time);
         println!(
@@ -487,6 +554,7 @@ fn main() {
         .map_or(2, |text| text.parse().expect("BENCH_MS is no number"));
     let time = milliseconds as f64 / 1000.0;
     print_calls(milliseconds);
+    print_batches(time);
     print_longest_searches(time);
     print_lists_of_random_tableaus();
     print_lists_of_sparse_operations();

@@ -24,6 +24,11 @@ def pack(numbers):
     return struct.pack(f"<{len(numbers)}H", *numbers)
 
 
+def pack_all(parts):
+    """Rows or Paulis end to end."""
+    return b"".join(pack(part) for part in parts)
+
+
 def unpack(data):
     return list(struct.unpack(f"<{len(data) // 2}H", data))
 
@@ -52,24 +57,35 @@ class Clifford:
             raise ValueError(f"{name} refuses: {number}, {WORDS[number]}")
         return value, out.raw
 
+    def paulis(self, name, inputs, room):
+        """A call whose output is Paulis end to end."""
+        out = self.call(name, ctypes.c_uint16, inputs, room)[1]
+        return [unpack(out[i : i + self.pauli_bytes]) for i in range(0, room, self.pauli_bytes)]
+
     def tableau(self, rows):
-        data = b"".join(pack(row) for row in rows)
-        out = self.call("tableau", ctypes.c_uint16, [data], self.tableau_bytes)[1]
-        return [unpack(out[i : i + self.pauli_bytes]) for i in range(0, len(out), self.pauli_bytes)]
+        return self.paulis("tableau", [pack_all(rows)], self.tableau_bytes)
 
     def synthesis(self, columns):
-        data = b"".join(pack(column) for column in columns)
         room = 40 * self.n**2 + 48 * self.n
-        count, out = self.call("synthesis", Answer, [data], room)
+        count, out = self.call("synthesis", Answer, [pack_all(columns)], room)
         return [unpack(out[8 * i : 8 * i + 8]) for i in range(count)]
 
     def run(self, rows, pauli):
-        data = b"".join(pack(row) for row in rows)
-        return unpack(self.call("run", ctypes.c_uint16, [data, pack(pauli)], self.pauli_bytes)[1])
+        return self.paulis("run", [pack_all(rows), pack(pauli)], self.pauli_bytes)[0]
+
+    def images(self, columns, batch):
+        """The images of up to 512 Paulis under a tableau, in one call."""
+        data = pack_all(batch)
+        return self.paulis("images", [pack_all(columns), data], len(data))
 
 
 def print_pauli(p, n):
     print(f"  {p[0]}; {','.join(map(str, p[1 : n + 1]))}; {','.join(map(str, p[n + 1 :]))}")
+
+
+def print_paulis(paulis, n):
+    for p in paulis:
+        print_pauli(p, n)
 
 
 def print_rows(rows):
@@ -85,8 +101,7 @@ def main():
     print_rows(rows)
     columns = clifford.tableau(rows)
     print("its tableau, a column a line:")
-    for column in columns:
-        print_pauli(column, n)
+    print_paulis(columns, n)
     found = clifford.synthesis(columns)
     print(f"a list with this tableau, {len(found)} rows:")
     print_rows(found)
@@ -95,6 +110,11 @@ def main():
     print_pauli(pauli, n)
     print("what the list makes of it:")
     print_pauli(clifford.run(found, pauli), n)
+    batch = [pauli, [0, 0, 0, 1, 0], [0, 0, 3, 0, 0]]
+    print("a batch of Paulis:")
+    print_paulis(batch, n)
+    print("their images under the tableau:")
+    print_paulis(clifford.images(columns, batch), n)
 
 
 if __name__ == "__main__":

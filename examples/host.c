@@ -1,6 +1,7 @@
 /*
  * A host of the library: build a list of gates, get its tableau, get a list
- * back from the tableau, and run that on a Pauli.
+ * back from the tableau, run that on a Pauli, and get the images of a batch of
+ * Paulis under the tableau.
  *
  *   cc -Iinclude examples/host.c build/libclifford.a -o build/host
  */
@@ -9,6 +10,7 @@
 
 #include <stdio.h>
 #include <stdlib.h>
+#include <string.h>
 
 enum { D = 4, N = 2 };
 
@@ -51,6 +53,12 @@ static void print_pauli(const uint8_t *pauli)
     printf("\n");
 }
 
+static void print_paulis(const uint8_t *paulis, size_t count)
+{
+    for (size_t i = 0; i < count; i++)
+        print_pauli(paulis + i * CLIFFORD_PAULI_BYTES(N));
+}
+
 /* A refusal has written nothing, so there is nothing to clean up. */
 static void stop_on_refusal(const char *call, unsigned number)
 {
@@ -77,8 +85,7 @@ int main(void)
     uint8_t tableau[CLIFFORD_TABLEAU_BYTES(N)];
     stop_on_refusal("tableau", clifford_tableau(D, N, list, sizeof list, tableau, sizeof tableau));
     printf("its tableau, a column a line:\n");
-    for (int j = 0; j < 2 * N; j++)
-        print_pauli(tableau + (size_t)j * CLIFFORD_PAULI_BYTES(N));
+    print_paulis(tableau, 2 * N);
 
     /* The value is the count of rows; they stand at the start of the output. */
     uint8_t found[CLIFFORD_SYNTHESIS_BYTES(N)];
@@ -101,5 +108,19 @@ int main(void)
     print_pauli(pauli);
     printf("what the list makes of it:\n");
     print_pauli(result);
+
+    /* A batch: that Pauli, Z on qudit 1 and X^3 on qudit 2, end to end. Their
+       images stand in the same order. */
+    uint8_t batch[3 * CLIFFORD_PAULI_BYTES(N)] = {0};
+    uint8_t images[sizeof batch];
+    memcpy(batch, pauli, sizeof pauli);
+    put(batch + sizeof pauli + 6, 1);
+    put(batch + 2 * sizeof pauli + 4, 3);
+    stop_on_refusal("images", clifford_images(D, N, tableau, sizeof tableau, batch, sizeof batch,
+                                              images, sizeof images));
+    printf("a batch of Paulis:\n");
+    print_paulis(batch, 3);
+    printf("their images under the tableau:\n");
+    print_paulis(images, 3);
     return 0;
 }

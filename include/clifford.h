@@ -20,6 +20,7 @@
  *   Tableau  2n Paulis, its columns               4n(1 + 2n) bytes
  *            Column j is what the operation makes of unit Pauli j: X on
  *            qudit j for j up to n, Z on qudit j - n above n.
+ *   Batch    0 to 512 Paulis, end to end
  *   Row      kind, first, second, power           8 bytes
  *   List     0 to 4,096 rows; the first acts first
  *
@@ -57,8 +58,9 @@
  * ANSWERS
  *
  * Each call gives a number: 0 when it did what was asked, else the first
- * refusal of the list below that applies, over all inputs of the call. A
- * refusal writes no byte of any output and gives 0 as every value.
+ * refusal of the list below that applies, over all inputs of the call. (In
+ * clifford_images the Paulis after the first come last.) A refusal writes no
+ * byte of any output and gives 0 as every value.
  */
 
 #ifndef CLIFFORD_H
@@ -81,8 +83,8 @@ enum {
     CLIFFORD_WIDTH = 2,
 
     /* An input isn't as long as its layout says, or a list isn't whole rows
-       or has more than 4,096. Lend the exact length; run a longer list in
-       parts. */
+       or has more than 4,096, or a batch isn't whole Paulis or has more than
+       512. Lend the exact length; run a longer list or batch in parts. */
     CLIFFORD_LENGTH = 3,
 
     /* An output is too short. Lend the room that the call names. */
@@ -110,11 +112,13 @@ enum {
     CLIFFORD_TEXT = 9
 };
 
-/* Bytes of each layout, and of the room that synthesis asks for. */
+/* Bytes of each layout, and of the room that synthesis asks for; and the most
+   Paulis of a batch. */
 #define CLIFFORD_PAULI_BYTES(n) (2 * (1 + 2 * (size_t)(n)))
 #define CLIFFORD_TABLEAU_BYTES(n) (2 * (size_t)(n) * CLIFFORD_PAULI_BYTES(n))
 #define CLIFFORD_ROW_BYTES ((size_t)8)
 #define CLIFFORD_SYNTHESIS_BYTES(n) (40 * (size_t)(n) * (size_t)(n) + 48 * (size_t)(n))
+#define CLIFFORD_BATCH_MOST ((size_t)512)
 
 /* A number, and a value that is 0 on refusal. */
 struct clifford_answer {
@@ -271,6 +275,29 @@ uint16_t clifford_image(uint16_t d, uint16_t n,
                         const uint8_t *tableau, size_t tableau_len,
                         const uint8_t *p, size_t p_len,
                         uint8_t *out, size_t out_len);
+
+/*
+ * Images of a batch of Paulis under a tableau.
+ * Inputs d, n, tableau[4n(1 + 2n)], paulis[2(1 + 2n) for each, 0 to 512 of
+ * them]; outputs function return and out[paulis_len]
+ *
+ * The same as a call of clifford_image for each Pauli in order: the images
+ * stand end to end at the start of out, in the order of the Paulis, and bytes
+ * after the last one don't change. The first of those calls to be refused
+ * gives the refusal, and then nothing is written, not even the images before
+ * it. An empty batch is accepted when the tableau is, and writes nothing.
+ *
+ * Refusals: 1 dimension; 2 width; 3 length of tableau, or paulis isn't whole
+ * Paulis or has more than 512; 4 room: out_len is below paulis_len, the room
+ * for all images; 5 range: a number of tableau or of the first Pauli; 7
+ * pairing; 8 parity; 5 range: a number of a later Pauli. So an unsound tableau
+ * gives 5 with the first Pauli out of range, but 7 or 8 with only a later one
+ * out of range.
+ */
+uint16_t clifford_images(uint16_t d, uint16_t n,
+                         const uint8_t *tableau, size_t tableau_len,
+                         const uint8_t *paulis, size_t paulis_len,
+                         uint8_t *out, size_t out_len);
 
 /*
  * Composition: first one tableau, then another.

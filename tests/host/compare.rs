@@ -5,6 +5,7 @@
 //! CALLS is the number of seeded calls, SEED their seed. A difference prints
 //! the call and both answers; ONLY=i makes the i-th seeded call alone.
 
+mod batch;
 mod touched;
 
 use library::{library, reference as reference_call, Layout, Lent, Name, Numbers, NAMES};
@@ -32,7 +33,7 @@ struct Case {
 
 impl Case {
     fn new(name: Name, d: u16, n: u16, first: Vec<u8>, second: Vec<u8>) -> Case {
-        let room = name.room(n as usize);
+        let room = name.room(n as usize, second.len());
         let numbers = Numbers { d, n, a: 0, b: 0 };
         Case {
             origin: String::new(),
@@ -183,13 +184,8 @@ impl Host {
         for number in [4, 6, 7, 8, 11, 14] {
             unsafe { signal(number, on_signal as extern "C" fn(i32) as usize) };
         }
-        let regions = [
-            Region::new(10 * PAGE),
-            Region::new(10 * PAGE),
-            Region::new(2 * PAGE),
-        ];
         Host {
-            regions,
+            regions: [(); 3].map(|_| Region::new(10 * PAGE)),
             calls: 0,
             seen: [[0; 10]; NAMES.len()],
         }
@@ -372,6 +368,12 @@ fn any_pauli(d: i64, n: usize, random: &mut Random) -> Pauli {
     }
 }
 
+fn batch_bytes(count: usize, d: i64, n: usize, random: &mut Random) -> Vec<u8> {
+    (0..count)
+        .flat_map(|_| calls::bytes_of_pauli(&any_pauli(d, n, random)))
+        .collect()
+}
+
 fn valid_input(layout: Layout, d: i64, n: usize, random: &mut Random) -> Vec<u8> {
     match layout {
         Layout::Pauli => calls::bytes_of_pauli(&any_pauli(d, n, random)),
@@ -385,6 +387,15 @@ fn valid_input(layout: Layout, d: i64, n: usize, random: &mut Random) -> Vec<u8>
                 }
             };
             calls::bytes_of_tableau(&tableau)
+        }
+        Layout::Batch => {
+            let count = match random.below(100) {
+                0 => calls::MOST_PAULIS,
+                1..=9 => 0,
+                10..=19 => 1,
+                _ => random.between(2, 8),
+            };
+            batch_bytes(count, d, n, random)
         }
         Layout::List => {
             let count = match random.below(100) {
@@ -400,10 +411,14 @@ fn valid_input(layout: Layout, d: i64, n: usize, random: &mut Random) -> Vec<u8>
 
 fn length_of(layout: Layout, n: usize) -> usize {
     match layout {
-        Layout::Pauli => calls::pauli_len(n),
+        Layout::Pauli | Layout::Batch => calls::pauli_len(n),
         Layout::Tableau => calls::tableau_len(n),
         Layout::List => calls::ROW_LEN,
     }
+}
+
+fn length_of_last(inputs: &[Vec<u8>]) -> usize {
+    inputs.last().map_or(0, Vec::len)
 }
 
 fn put(bytes: &mut [u8], index: usize, number: u16) {
@@ -417,6 +432,9 @@ fn too_large(limit: u16, random: &mut Random) -> u16 {
 }
 
 fn damage_range(input: &mut [u8], d: u16, n: usize, random: &mut Random) {
+    if input.is_empty() {
+        return; // a batch without a number
+    }
     let last = input.len() / 2 - 1;
     let any = random.between(0, last);
     let index = random.pick(&[0, last, any, any]);
@@ -504,12 +522,15 @@ fn damage_parity(input: &mut Vec<u8>, d: u16, n: usize, random: &mut Random) {
 
 /// The lengths that come out as right when reduced modulo 65,536 are there for
 /// code that keeps a length in 16 bits.
-fn damage_length(input: &mut Vec<u8>, layout: Layout, random: &mut Random) {
+fn damage_length(input: &mut Vec<u8>, layout: Layout, n: usize, random: &mut Random) {
     let old = input.len();
+    let pauli = calls::pauli_len(n);
     let new = match (layout, random.below(12)) {
         (Layout::List, 0) => 8 * (calls::MOST_ROWS + 1),
         (Layout::List, 1) => 8 * calls::MOST_ROWS + random.between(1, 7),
         (Layout::List, 2) if random.one_in(20) => 8 * 65_536 + old.min(64),
+        (Layout::Batch, 0) => pauli * (calls::MOST_PAULIS + 1),
+        (Layout::Batch, 1) => pauli * calls::MOST_PAULIS + random.between(1, pauli - 1),
         (_, 3) if random.one_in(20) => 65_536 + old,
         (_, 4) => 0,
         (_, 5) => random.between(0, 2 * old),
@@ -518,11 +539,16 @@ fn damage_length(input: &mut Vec<u8>, layout: Layout, random: &mut Random) {
         (_, 8 | 9) => old + 1,
         _ => old.saturating_sub(1),
     };
-    // More rows have to be legal, so that only the length is wrong.
-    let row = input.get(..8).unwrap_or(&[1, 0, 1, 0, 0, 0, 1, 0]).to_vec();
+    // More rows have to be legal and more Paulis in range, so that only the
+    // length is wrong.
+    let legal = match layout {
+        Layout::Batch => vec![0; pauli],
+        _ => vec![1, 0, 1, 0, 0, 0, 1, 0],
+    };
+    let part = input.get(..legal.len()).unwrap_or(&legal).to_vec();
     let missing = new.saturating_sub(old);
     input.truncate(new);
-    input.extend(row.iter().cycle().take(missing));
+    input.extend(part.iter().cycle().take(missing));
 }
 
 fn seeded_case(seed: u64, index: u64) -> Case {
@@ -549,7 +575,7 @@ fn seeded_case(seed: u64, index: u64) -> Case {
     } else if random.one_in(2) {
         x.a = random.pick(&[0, 1, 2, d - 1, d, 2 * d, u16::MAX]);
     }
-    let needed = name.room(wide);
+    let needed = name.room(wide, length_of_last(&lent));
     let mut room = needed + random.pick(&[0, 0, 0, 1, 8, 64, 100]);
 
     // Half of all calls have no fault, the others one to three, so that the
@@ -584,17 +610,17 @@ fn seeded_case(seed: u64, index: u64) -> Case {
                 x.b = large
             }
         } else {
-            let place = some(&[Layout::Pauli, Layout::Tableau], random);
+            let place = some(&[Layout::Pauli, Layout::Tableau, Layout::Batch], random);
             damage_range(&mut lent[place], d, wide, random);
         }
     }
-    if faulty[calls::ROOM as usize] {
+    if faulty[calls::ROOM as usize] && needed > 0 {
         let any = random.below(needed);
         room = random.pick(&[needed - 1, needed - 1, needed - 2, any, 0]);
     }
     if faulty[calls::LENGTH as usize] {
         let place = random.below(lent.len());
-        damage_length(&mut lent[place], inputs[place], random);
+        damage_length(&mut lent[place], inputs[place], wide, random);
     }
     if faulty[calls::WIDTH as usize] {
         x.n = random.pick(&[0, 0, 17, 17, 18, 256 + n, 65_535]);
@@ -603,7 +629,7 @@ fn seeded_case(seed: u64, index: u64) -> Case {
             for (input, &layout) in lent.iter_mut().zip(inputs) {
                 input.resize(length_of(layout, x.n as usize), 0);
             }
-            room = name.room(x.n as usize);
+            room = name.room(x.n as usize, length_of_last(&lent));
         }
     }
     if faulty[calls::DIMENSION as usize] {
@@ -877,6 +903,12 @@ fn main() {
     touched::support_number_by_number(&mut host, seed);
     touched::support_of_results(&mut host, seed);
     touched::commutation_of_few(&mut host, seed);
+    batch::random_batches(&mut host, seed);
+    batch::batches_of_columns(&mut host, seed);
+    batch::refused_at_each_place(&mut host, seed);
+    batch::fault_by_fault(&mut host, seed);
+    batch::every_length(&mut host, seed);
+    batch::empty_batches(&mut host, seed);
     rows_used(&mut host, seed);
 
     host.seen = [[0; 10]; NAMES.len()];

@@ -128,6 +128,67 @@ static void parity_advice(void)
     free(tableau);
 }
 
+/* The images of these Paulis are as wanted, and nothing after them is written;
+   with one byte less room nothing is written at all. */
+static void expect_images(uint16_t d, uint16_t n, const uint8_t *tableau, const uint8_t *paulis,
+                          const uint8_t *wanted, size_t len, const char *what)
+{
+    const size_t tableau_len = CLIFFORD_TABLEAU_BYTES(n);
+    uint8_t *out = output(len + 3);
+
+    expect(clifford_images(d, n, tableau, tableau_len, paulis, len, out, len + 3) == 0, what);
+    expect_output(wanted, len, len + 3, what);
+    out = output(len - 1);
+    expect(clifford_images(d, n, tableau, tableau_len, paulis, len, out, len - 1) == CLIFFORD_ROOM,
+           what);
+    expect_output(NULL, 0, len - 1, what);
+}
+
+/* A batch as long as it may be, 512 Paulis on 16 qudits: what single calls give,
+   and with a last Pauli that is out of range nothing. One more is a wrong
+   length. */
+static void full_batch(void)
+{
+    enum { D = 1024, N = 16, NUMBERS = 2 * N + 1 };
+    const uint16_t list_numbers[] = {1, 1, 0, 1, 3, 1, 16, 5, 2, 16, 0, 7, 3, 16, 2, 9};
+    const size_t count = CLIFFORD_BATCH_MOST, len = count * CLIFFORD_PAULI_BYTES(N);
+    const size_t pauli_len = CLIFFORD_PAULI_BYTES(N), tableau_len = CLIFFORD_TABLEAU_BYTES(N);
+    uint8_t *list = lend(list_numbers, 16);
+    uint8_t *tableau = malloc(tableau_len), *wanted = malloc(len);
+    uint16_t *numbers = malloc(len + pauli_len);
+    uint8_t *paulis, *more, *out;
+
+    if (tableau == NULL || wanted == NULL || numbers == NULL)
+        exit(2);
+    for (size_t i = 0; i < (count + 1) * NUMBERS; i++)
+        numbers[i] = (uint16_t)(i * i % D);
+    paulis = lend(numbers, count * NUMBERS);
+    more = lend(numbers, (count + 1) * NUMBERS);
+    expect(clifford_tableau(D, N, list, 4 * CLIFFORD_ROW_BYTES, tableau, tableau_len) == 0,
+           "full batch, tableau");
+    for (size_t at = 0; at < len; at += pauli_len)
+        expect(clifford_image(D, N, tableau, tableau_len, paulis + at, pauli_len, wanted + at,
+                              pauli_len) == 0, "full batch, a single call");
+    expect_images(D, N, tableau, paulis, wanted, len, "full batch");
+
+    out = output(len + pauli_len);
+    expect(clifford_images(D, N, tableau, tableau_len, more, len + pauli_len, out, len + pauli_len)
+               == CLIFFORD_LENGTH,
+           "full batch, one Pauli more");
+    expect_output(NULL, 0, len + pauli_len, "full batch, output with one Pauli more");
+    paulis[len - 1] = D >> 8;
+    out = output(len);
+    expect(clifford_images(D, N, tableau, tableau_len, paulis, len, out, len) == CLIFFORD_RANGE,
+           "full batch, the last Pauli out of range");
+    expect_output(NULL, 0, len, "full batch, output with the last Pauli out of range");
+    free(list);
+    free(tableau);
+    free(wanted);
+    free(numbers);
+    free(paulis);
+    free(more);
+}
+
 int main(void)
 {
     /* d = 4, n = 2: the document's list and its tableau. */
@@ -144,6 +205,10 @@ int main(void)
     /* F: v1, w1 = 1, 3 become 1, 1 with phase 7 - 6 = 1. A: v2 = 3. Z: phase
        1 + 2*3*3 = 19, so 3. */
     const uint16_t image_numbers[] = {3, 1, 3, 1, 0};
+    /* Both Paulis. The second: F makes v1, w1 = 0, 3 of 3, 0. A: v2 = 3 and
+       w1 = 3 - 2. Z: phase 1 + 2*3*3 = 19, so 3. */
+    const uint16_t batch_numbers[] = {7, 1, 2, 3, 0, 1, 3, 3, 0, 2};
+    const uint16_t images_numbers[] = {3, 1, 3, 1, 0, 3, 0, 3, 1, 2};
     /* w of qudit 2 alone, and a phase alone. */
     const uint16_t sparse_numbers[] = {7, 0, 0, 0, 2};
     const uint16_t phase_numbers[] = {7, 0, 0, 0, 0};
@@ -161,6 +226,8 @@ int main(void)
     uint8_t *product = lend(product_numbers, 5);
     uint8_t *power = lend(power_numbers, 5);
     uint8_t *image = lend(image_numbers, 5);
+    uint8_t *batch = lend(batch_numbers, 10);
+    uint8_t *images = lend(images_numbers, 10);
     uint8_t *sparse = lend(sparse_numbers, 5);
     uint8_t *phase = lend(phase_numbers, 5);
     uint8_t undone[CLIFFORD_TABLEAU_BYTES(2)];
@@ -169,6 +236,7 @@ int main(void)
     undo_both_ways(units);
     old_bytes(tableau);
     parity_advice();
+    full_batch();
 
     expect(answers(clifford_least_multiplier(6, 2, 1), 0, 5), "least multiplier, -1");
     expect(answers(clifford_least_multiplier(840, 6, 1), 0, 5),
@@ -256,6 +324,26 @@ int main(void)
            "image, a refusal");
     expect_output(NULL, 0, pauli_len, "image, output on refusal");
 
+    expect_images(4, 2, tableau, batch, images, 2 * pauli_len, "images");
+    expect(clifford_images(4, 2, tableau, tableau_len, NULL, 0, NULL, 0) == 0,
+           "images of an empty batch");
+    out = output(pauli_len);
+    expect(clifford_images(4, 2, tableau, tableau_len, NULL, 0, out, pauli_len) == 0,
+           "images of an empty batch, with room");
+    expect_output(NULL, 0, pauli_len, "images of an empty batch, output");
+    expect(clifford_images(4, 2, units, tableau_len, NULL, 0, NULL, 0) == CLIFFORD_PARITY,
+           "images of an empty batch, a refusal");
+    out = output(2 * pauli_len);
+    batch[pauli_len] = 8;
+    expect(clifford_images(4, 2, units, tableau_len, batch, 2 * pauli_len, out, 2 * pauli_len)
+               == CLIFFORD_PARITY,
+           "images, the tableau before the second Pauli");
+    batch[0] = 8;
+    expect(clifford_images(4, 2, units, tableau_len, batch, 2 * pauli_len, out, 2 * pauli_len)
+               == CLIFFORD_RANGE,
+           "images, the first Pauli before the tableau");
+    expect_output(NULL, 0, 2 * pauli_len, "images, output on refusal");
+
     out = output(room + 8);
     struct clifford_answer found = clifford_synthesis(4, 2, tableau, tableau_len, out, room + 8);
     size_t found_len = CLIFFORD_ROW_BYTES * found.value;
@@ -290,10 +378,12 @@ int main(void)
     free(product);
     free(power);
     free(image);
+    free(batch);
+    free(images);
     free(sparse);
     free(phase);
     free(block);
     if (faults == 0)
-        printf("guard: all twelve calls, no fault\n");
+        printf("guard: all thirteen calls, no fault\n");
     return faults != 0;
 }

@@ -31,6 +31,10 @@ extern "C" {
         d: u16, n: u16, tableau: *const u8, tableau_len: usize, p: *const u8, p_len: usize,
         out: *mut u8, out_len: usize,
     ) -> u16;
+    fn clifford_images(
+        d: u16, n: u16, tableau: *const u8, tableau_len: usize, paulis: *const u8,
+        paulis_len: usize, out: *mut u8, out_len: usize,
+    ) -> u16;
     fn clifford_compose(
         d: u16, n: u16, first: *const u8, first_len: usize, second: *const u8,
         second_len: usize, out: *mut u8, out_len: usize,
@@ -52,6 +56,7 @@ pub enum Name {
     Tableau,
     Synthesis,
     Image,
+    Images,
     Compose,
     Inverse,
     Ticks,
@@ -59,7 +64,7 @@ pub enum Name {
 
 use Name::*;
 
-pub const NAMES: [Name; 12] = [
+pub const NAMES: [Name; 13] = [
     LeastMultiplier,
     Product,
     Power,
@@ -69,6 +74,7 @@ pub const NAMES: [Name; 12] = [
     Tableau,
     Synthesis,
     Image,
+    Images,
     Compose,
     Inverse,
     Ticks,
@@ -79,6 +85,7 @@ pub const NAMES: [Name; 12] = [
 pub enum Layout {
     Pauli,
     Tableau,
+    Batch,
     List,
 }
 
@@ -94,6 +101,7 @@ impl Name {
             Tableau => "clifford_tableau",
             Synthesis => "clifford_synthesis",
             Image => "clifford_image",
+            Images => "clifford_images",
             Compose => "clifford_compose",
             Inverse => "clifford_inverse",
             Ticks => "clifford_ticks",
@@ -108,7 +116,7 @@ impl Name {
             Commutation | Support => &[1, 2, 3, 5],
             Run => &[1, 2, 3, 4, 5, 6],
             Tableau => &[1, 2, 3, 4, 6],
-            Synthesis | Image | Compose | Inverse => &[1, 2, 3, 4, 5, 7, 8],
+            Synthesis | Image | Images | Compose | Inverse => &[1, 2, 3, 4, 5, 7, 8],
             Ticks => &[1, 2, 3, 6],
         }
     }
@@ -122,14 +130,18 @@ impl Name {
             Tableau | Ticks => &[Layout::List],
             Synthesis | Inverse => &[Layout::Tableau],
             Image => &[Layout::Tableau, Layout::Pauli],
+            Images => &[Layout::Tableau, Layout::Batch],
             Compose => &[Layout::Tableau, Layout::Tableau],
         }
     }
 
-    pub fn room(self, n: usize) -> usize {
+    /// The room that the call asks for. Images are as long as their Paulis, so
+    /// it depends on the length of the second input there, and nowhere else.
+    pub fn room(self, n: usize, second_len: usize) -> usize {
         match self {
             LeastMultiplier | Commutation | Support | Ticks => 0,
             Product | Power | Run | Image => calls::pauli_len(n),
+            Images => second_len,
             Tableau | Compose | Inverse => calls::tableau_len(n),
             Synthesis => calls::synthesis_room(n),
         }
@@ -205,6 +217,7 @@ pub unsafe fn library(name: Name, x: Numbers, first: Lent, second: Lent, out: Le
         Tableau => plain(clifford_tableau(d, n, f, f_len, o, o_len)),
         Synthesis => clifford_synthesis(d, n, f, f_len, o, o_len),
         Image => plain(clifford_image(d, n, f, f_len, s, s_len, o, o_len)),
+        Images => plain(clifford_images(d, n, f, f_len, s, s_len, o, o_len)),
         Compose => plain(clifford_compose(d, n, f, f_len, s, s_len, o, o_len)),
         Inverse => plain(clifford_inverse(d, n, f, f_len, o, o_len)),
         Ticks => clifford_ticks(d, n, f, f_len),
@@ -233,6 +246,7 @@ pub fn reference(name: Name, x: Numbers, first: &[u8], second: &[u8], out: &mut 
         Tableau => plain(calls::tableau(d, n, first, out)),
         Synthesis => calls::synthesis(d, n, first, out),
         Image => plain(calls::image(d, n, first, second, out)),
+        Images => plain(calls::images(d, n, first, second, out)),
         Compose => plain(calls::compose(d, n, first, second, out)),
         Inverse => plain(calls::inverse(d, n, first, out)),
         Ticks => calls::ticks(d, n, first),

@@ -17,7 +17,8 @@ static uint16_t dimension;
 static uint8_t list[ROWS * 8];
 static uint8_t first[CLIFFORD_TABLEAU_BYTES(QUDITS)], second[CLIFFORD_TABLEAU_BYTES(QUDITS)];
 static uint8_t pauli[CLIFFORD_PAULI_BYTES(QUDITS)];
-static uint8_t out[CLIFFORD_SYNTHESIS_BYTES(QUDITS)];
+static uint8_t batch[CLIFFORD_BATCH_MOST * CLIFFORD_PAULI_BYTES(QUDITS)];
+static uint8_t out[sizeof batch]; /* the longest answer of all */
 static uint16_t number;
 
 static void least_multiplier(void)
@@ -65,6 +66,11 @@ static void image(void)
     number = clifford_image(dimension, QUDITS, first, sizeof first, pauli, sizeof pauli, out, sizeof out);
 }
 
+static void images(void)
+{
+    number = clifford_images(dimension, QUDITS, first, sizeof first, batch, sizeof batch, out, sizeof out);
+}
+
 static void compose(void)
 {
     number = clifford_compose(dimension, QUDITS, first, sizeof first, second, sizeof second, out, sizeof out);
@@ -86,8 +92,8 @@ static const struct {
 } calls[] = {
     {"least_multiplier", least_multiplier}, {"product", product}, {"power", power},
     {"commutation", commutation}, {"support", support}, {"run", run}, {"tableau", tableau},
-    {"synthesis", synthesis}, {"image", image}, {"compose", compose}, {"inverse", inverse},
-    {"ticks", ticks},
+    {"synthesis", synthesis}, {"image", image}, {"images", images}, {"compose", compose},
+    {"inverse", inverse}, {"ticks", ticks},
 };
 
 static unsigned long drawn = 1;
@@ -146,8 +152,9 @@ int main(void)
         draw_list();
         tableau();
         memcpy(first, out, sizeof first);
-        for (size_t i = 0; i < sizeof pauli / 2; i++)
-            put(pauli, i, below(dimension));
+        for (size_t i = 0; i < sizeof batch / 2; i++)
+            put(batch, i, below(dimension));
+        memcpy(pauli, batch, sizeof pauli);
         for (size_t i = 0; i < sizeof calls / sizeof *calls; i++) {
             size_t used = used_by(calls[i].call);
             most = used > most ? used : most;

@@ -1,8 +1,8 @@
 -- What passes a check: the converse of the laws in Refusals that end in -good. Together they say that 1 to 5 are 0 exactly where the plain facts hold. Assumes nothing.
 use mathlib.Core.Path.{_≡_, refl}
-use Prim.Native.Nat.{ℕ, _≤_, _<_}
+use Prim.Native.Nat.{ℕ, _/_, _%_, _≤_, _<_}
 use borrow.Author.Tests.{le-leb, lt-ltb, eq-eqb}
-use Rattle.arith.specs.Refusals.{orElse, dimensionOf, widthOf, givenOf, sizeOf, roomOf, rangeOf, Dimension, Width}
+use Rattle.arith.specs.Refusals.{orElse, dimensionOf, widthOf, givenOf, sizeOf, wholeOf, roomOf, rangeOf, Dimension, Width}
 
 pub dimension-passes : {d : ℕ} → Dimension d → dimensionOf d ≡ 0
 unfolding dimensionOf
@@ -15,6 +15,10 @@ width-passes {n} h = rw (le-leb 1 n (h .n-low), le-leb n 16 (h .n-high)) refl
 pub size-passes : {want have : ℕ} → have ≡ want → sizeOf want have ≡ 0
 unfolding sizeOf
 size-passes {want} {have} e = rw (eq-eqb have want e) refl
+
+pub whole-passes : (one most have : ℕ) → have % one ≡ 0 → have / one ≤ most → wholeOf one most have ≡ 0
+unfolding wholeOf
+whole-passes one most have e l = rw (eq-eqb (have % one) 0 e, le-leb (have / one) most l) refl
 
 pub room-passes : {want have : ℕ} → want ≤ have → roomOf want have ≡ 0
 unfolding roomOf

@@ -3,13 +3,13 @@ use mathlib.Core.Path.{_≡_, refl, sym, _∙_, ap}
 use mathlib.Core.List.{List}
 use mathlib.Core.Logic.{_≢_}
 use mathlib.Core.Bool.{Bool, true, false, _&&_}
-use Prim.Native.Nat.{ℕ, zero, suc, _*_, _%_, _≤_, _<_}
+use Prim.Native.Nat.{ℕ, zero, suc, _*_, _/_, _%_, _≤_, _<_}
 use native.Mathlib.Omega.{arith}
 use lib.Dec.{leb, eqb}
 use borrow.Author.Tests.{leb-true, ltb-true, eqb-true}
 use Rattle.arith.specs.Bytes.{front}
 use Rattle.arith.specs.Answers.{Answered, Written}
-use Rattle.arith.specs.Refusals.{refusalNumber, numberOf, orElse, unless, kept, unlessHolds, dimensionOf, widthOf, givenOf, sizeOf, listSizeOf, roomOf, rangeOf, rowOf, pairingOf, parityOf, Dimension, Width}
+use Rattle.arith.specs.Refusals.{refusalNumber, numberOf, orElse, unless, kept, unlessHolds, dimensionOf, widthOf, givenOf, sizeOf, wholeOf, listSizeOf, roomOf, rangeOf, rowOf, pairingOf, parityOf, Dimension, Width}
 use Rattle.arith.specs.declared.checks.Check.{Check}
 use Rattle.arith.specs.declared.checks.Check.the-variants.{Good, Refused}
 use Rattle.arith.specs.declared.checks.Refusal.{Refusal}
@@ -80,6 +80,15 @@ orElse-none (suc a) b e = absurd (omega (arith, e))
 pub orElse-skip : {a : ℕ} (b : ℕ) → a ≡ 0 → orElse a b ≡ b
 orElse-skip b e = rw e
 
+-- a second refusal counts only where the first is past
+pub orElse-past : (a : ℕ) {b c : ℕ} → (a ≡ 0 → b ≡ c) → orElse a b ≡ orElse a c
+orElse-past zero h = h refl
+orElse-past (suc a) h = refl
+
+pub orElse-last : (a : ℕ) → orElse a 0 ≡ a
+orElse-last zero = refl
+orElse-last (suc a) = refl
+
 pub orElse-assoc : (a b c : ℕ) → orElse (orElse a b) c ≡ orElse a (orElse b c)
 orElse-assoc zero b c = refl
 orElse-assoc (suc a) b c = refl
@@ -131,9 +140,13 @@ pub size-good : {want have : ℕ} → sizeOf want have ≡ 0 → have ≡ want
 unfolding sizeOf
 size-good {want} {have} e = eqb-true have want (held refusal.Length _ e)
 
+pub whole-good : (one most have : ℕ) → wholeOf one most have ≡ 0 → (have % one ≡ 0) × (have / one ≤ most)
+unfolding wholeOf
+whole-good one most have e = let b = both-held (eqb (have % one) 0) (leb (have / one) most) (held refusal.Length _ e) in (eqb-true (have % one) 0 (b .0), leb-true (have / one) most (b .1))
+
 pub list-size-good : {have : ℕ} → listSizeOf have ≡ 0 → (have % 8 ≡ 0) × (have ≤ 8 * 4096)
 unfolding listSizeOf
-list-size-good {have} e = let b = both-held (eqb (have % 8) 0) (leb have (8 * 4096)) (held refusal.Length _ e) in (eqb-true (have % 8) 0 (b .0), leb-true have (8 * 4096) (b .1))
+list-size-good {have} e = let w = whole-good 8 4096 have e in (w .0, omega (arith, w))
 
 pub room-good : {want have : ℕ} → roomOf want have ≡ 0 → want ≤ have
 unfolding roomOf

@@ -1,7 +1,7 @@
 -- The refusals of document 01's table: each is its number where its condition holds, else 0.
 use mathlib.Core.List.{List}
 use mathlib.Core.Bool.{Bool, _&&_, cond}
-use Prim.Native.Nat.{ℕ, zero, suc, _*_, _%_, _≤_}
+use Prim.Native.Nat.{ℕ, zero, suc, _/_, _%_, _≤_}
 use lib.Dec.{leb, ltb, eqb}
 use Rattle.arith.specs.declared.checks.Check.{Check}
 use Rattle.arith.specs.declared.checks.Check.the-variants.{Good, Refused}
@@ -41,9 +41,13 @@ widthOf n = unlessHolds refusal.Width (leb 1 n && leb n 16)
 unfoldable pub sizeOf : ℕ → ℕ → ℕ
 sizeOf want have = unlessHolds refusal.Length (eqb have want)
 
+-- 3, length: an input of `have` bytes, which holds items of `one` bytes each, isn't whole items or has more than `most` of them
+unfoldable pub wholeOf : ℕ → ℕ → ℕ → ℕ
+wholeOf one most have = unlessHolds refusal.Length (eqb (have % one) 0 && leb (have / one) most)
+
 -- 3, length: a list isn't whole rows or exceeds 4,096
 unfoldable pub listSizeOf : ℕ → ℕ
-listSizeOf have = unlessHolds refusal.Length (eqb (have % 8) 0 && leb have (8 * 4096))
+listSizeOf have = wholeOf 8 4096 have
 
 -- 4, room: an output is shorter than the full answer
 unfoldable pub roomOf : ℕ → ℕ → ℕ

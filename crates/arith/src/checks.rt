@@ -1,6 +1,7 @@
 // The checks of refusals 1 to 5, which answer an enum: the first that refuses ends a call.
 ghost use mathlib.Core.Path.{_≡_};
-ghost use Rattle.arith.specs.Refusals.{refusalNumber, numberOf, orElse, dimensionOf, widthOf, givenOf, sizeOf, listSizeOf, roomOf, rangeOf};
+ghost use Prim.Native.Nat.{_<_};
+ghost use Rattle.arith.specs.Refusals.{refusalNumber, numberOf, orElse, dimensionOf, widthOf, givenOf, sizeOf, wholeOf, listSizeOf, roomOf, rangeOf};
 
 // The refusals of document 01's table.
 pub enum Refusal {
@@ -8,7 +9,7 @@ pub enum Refusal {
     Dimension,
     // n is 0 or above 16
     Width,
-    // an input isn't as long as its layout says; a list isn't whole rows or exceeds 4,096
+    // an input isn't as long as its layout says; a list isn't whole rows or exceeds 4,096; a batch isn't whole Paulis or exceeds 512
     Length,
     // an output is shorter than the full answer, or for synthesis than 40n² + 48n bytes
     Room,
@@ -108,18 +109,27 @@ pub fn size(want: usize, have: usize) -> Check
     Check::Refused(Refusal::Length)
 }
 
+// Whole items of `one` bytes, at most `most` of them.
+pub fn whole(one: usize, most: usize, have: usize) -> Check
+    requires { ⌜ 0 < one ⌝ }
+    ensures { λ r. ⌜ numberOf r ≡ wholeOf one most have ⌝ }
+{
+    let over = have % one;
+    if over != 0 {
+        return Check::Refused(Refusal::Length);
+    }
+    let count = have / one;
+    if most < count {
+        return Check::Refused(Refusal::Length);
+    }
+    Check::Good
+}
+
 // A list: whole rows of 8 bytes, at most 4,096 of them.
 pub fn list_size(have: usize) -> Check
     ensures { λ r. ⌜ numberOf r ≡ listSizeOf have ⌝ }
 {
-    let over = have % 8;
-    if over != 0 {
-        return Check::Refused(Refusal::Length);
-    }
-    if 32768 < have {
-        return Check::Refused(Refusal::Length);
-    }
-    Check::Good
+    whole(8, 4096, have)
 }
 
 pub fn room(want: usize, have: usize) -> Check

@@ -11,6 +11,7 @@ ghost use Rattle.pauli.specs.Calls.{productRefusal, productBytes, powerRefusal,
 ghost use Rattle.gates.specs.Calls.{runRefusal, runBytes, ticksRefusal, ticksOf};
 ghost use Rattle.synthesis.specs.Demand3.{Synthesised};
 ghost use Rattle.synthesis.specs.Chosen.{Chosen};
+ghost use Rattle.tableau.specs.Batch.{imagesRefusal, imagesAnswer};
 ghost use Rattle.tableau.specs.Calls.{tableauRefusal, tableauAnswer, imageRefusal, imageAnswer, composeRefusal, composeAnswer, inverseRefusal, inverseAnswer};
 
 // The least multiplier of a and b: of 0, 1, −1, 2, −2 and on the first that fits, as a residue.
@@ -84,6 +85,20 @@ pub extern "C" fn clifford_image(d: u16, n: u16, tableau: &[u8], p: &[u8], out: 
     ensures { λ r. ⌜ Written (imageRefusal d n (now (tableau .entry)) (now (p .entry)) (length (now (out .entry)))) (imageAnswer d n (now (tableau .entry)) (now (p .entry))) (now (out .entry)) (now (out .exit)) r ⌝ }
 {
     tableau::calls::image(d, n, tableau, p, out)
+}
+
+// The images of up to 512 Paulis, end to end, under the tableau: as single calls made in order answer.
+#[no_mangle]
+pub extern "C" fn clifford_images(
+    d: u16,
+    n: u16,
+    tableau: &[u8],
+    paulis: &[u8],
+    out: &mut [u8],
+) -> u16
+    ensures { λ r. ⌜ Written (imagesRefusal d n (now (tableau .entry)) (now (paulis .entry)) (length (now (out .entry)))) (imagesAnswer d n (now (tableau .entry)) (now (paulis .entry))) (now (out .entry)) (now (out .exit)) r ⌝ }
+{
+    tableau::batch::images(d, n, tableau, paulis, out)
 }
 
 // The first tableau, then the second.

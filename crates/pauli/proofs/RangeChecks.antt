@@ -9,7 +9,7 @@ use Rattle.arith.specs.Bytes.{tab}
 use Rattle.arith.specs.Refusals.{orElse, unlessHolds, rangeOf}
 use Rattle.arith.specs.declared.checks.Refusal.the-variants.{Range}
 use Rattle.arith.proofs.Cases.{by-less, ltb-case}
-use Rattle.arith.proofs.Refusals.{orElse-none, orElse-assoc, range-good as number-good}
+use Rattle.arith.proofs.Refusals.{orElse-none, orElse-last, orElse-assoc, range-good as number-good}
 use Rattle.arith.proofs.Passes.{range-passes, both-pass}
 use Rattle.pauli.specs.Pauli.{Pauli, Below, none, more, InRange}
 use Rattle.pauli.specs.Range.{boundsOf, pauliRangeOf}
@@ -37,11 +37,7 @@ bounds-none d f g h = range-passes h
 
 last : (d : ℕ) (f : ℕ → ℕ) (i : ℕ) → boundsOf d (tab f (suc i)) ≡ orElse (boundsOf d (tab f i)) (rangeOf d (f i))
 unfolding tab boundsOf
-last d f zero = alone (rangeOf d (f 0))
-  where
-    alone : (x : ℕ) → orElse x 0 ≡ x
-    alone zero = refl
-    alone (suc x) = refl
+last d f zero = orElse-last (rangeOf d (f 0))
 last d f (suc i) =
     ap (orElse (rangeOf d (f 0))) (last d (λ j. f (suc j)) i)
     ∙ sym (orElse-assoc (rangeOf d (f 0)) (boundsOf d (tab (λ j. f (suc j)) i)) (rangeOf d (f (suc i))))

@@ -21,9 +21,9 @@ use Rattle.tableau.specs.Bytes.{tableauBytes, columnAt, decodeTableau, t
 use Rattle.tableau.specs.Range.{tableauRangeOf}
 use Rattle.tableau.proofs.Columns.{column-range}
 
--- ---- where column j stands
-pub column-inside : (n j : ℕ) → j < 2 * n → 2 * (j * (1 + 2 * n) + 1 + 2 * n) ≤ tableauBytes n
-column-inside n j h = omega (arith, mul-le-mul h (le-refl (1 + 2 * n)))
+-- ---- where column j of m stands
+pub column-inside : (n m j : ℕ) → j < m → 2 * (j * (1 + 2 * n) + 1 + 2 * n) ≤ 2 * (m * (1 + 2 * n))
+column-inside n m j h = omega (arith, mul-le-mul h (le-refl (1 + 2 * n)))
 
 pub column-small : (n j : ℕ) → n ≤ 16 → j ≤ 32 → j * (1 + 2 * n) ≤ 1056
 column-small n j h l = let k : 1 + 2 * n ≤ 33 = omega arith in omega (arith, mul-le-mul l k)
@@ -41,7 +41,7 @@ unfolding decodeTableau
 decode-table n b = refl
 
 -- what is decoded has 2n columns of n entries of each kind, so it is well formed once 5 is past
-ranges-good : {d n : ℕ} (f : ℕ → ℕ) (b : List ℕ) (m : ℕ) → tableauRangeOf d (tab (λ j. decodeAt n (f j) b) m) ≡ 0 → AllInRange d n (tab (λ j. decodeAt n (f j) b) m)
+pub ranges-good : {d n : ℕ} (f : ℕ → ℕ) (b : List ℕ) (m : ℕ) → tableauRangeOf d (tab (λ j. decodeAt n (f j) b) m) ≡ 0 → AllInRange d n (tab (λ j. decodeAt n (f j) b) m)
 unfolding tab tableauRangeOf
 ranges-good f b zero e = none
 ranges-good {d} {n} f b (suc m) e =
@@ -62,7 +62,7 @@ ranges-pass (more r rs) = both-pass (pauli-passes r) (ranges-pass rs)
 pub numbers-length : {d n : ℕ} {p : Pauli} → InRange d n p → length (numbersOf p) ≡ 1 + 2 * n
 numbers-length r = omega (arith, entries-length r)
 
-all-length : {d n : ℕ} {t : List Pauli} → AllInRange d n t → length (tableauNumbers t) ≡ length t * (1 + 2 * n)
+pub all-length : {d n : ℕ} {t : List Pauli} → AllInRange d n t → length (tableauNumbers t) ≡ length t * (1 + 2 * n)
 all-length {n = n} none = omega arith
 all-length {n = n} (more {c = c} {cs = cs} r rs) = length-append (numbersOf c) (tableauNumbers cs) ∙ omega (arith, numbers-length r, all-length rs)
 
@@ -131,10 +131,10 @@ columns-next n g {old} {new} {next} j {q} h e w p = record {
     one-more : tableauNumbers (tab g j) ++ numbersOf (g j) ≡ tableauNumbers (tab g (j + 1))
     one-more = ap (λ (z : List ℕ). tableauNumbers (tab g j) ++ z) (sym (append-nil (numbersOf (g j)))) ∙ sym (numbers-append (tab g j) (g j ∷ [])) ∙ ap tableauNumbers (sym (tab-more g j))
 
--- after the last: the tableau at the front of an output that has room
-pub columns-all : (n : ℕ) {t : List Pauli} (g : ℕ → Pauli) {old new : List ℕ} {j : ℕ} → j ≡ 2 * n → t ≡ tab g (2 * n) → ((i : ℕ) → length (numbersOf (g i)) ≡ 1 + 2 * n) → tableauBytes n ≤ length old → ColumnsWritten g old new j → new ≡ front (encodeTableau t) old
+-- after the last of m: all of them at the front of an output that has room
+pub columns-all : (n m : ℕ) {t : List Pauli} (g : ℕ → Pauli) {old new : List ℕ} {j : ℕ} → j ≡ m → t ≡ tab g m → ((i : ℕ) → length (numbersOf (g i)) ≡ 1 + 2 * n) → 2 * (m * (1 + 2 * n)) ≤ length old → ColumnsWritten g old new j → new ≡ front (encodeTableau t) old
 unfolding encodeTableau
-columns-all n {t = t} g {old} e table h room w =
+columns-all n m {t = t} g {old} e table h room w =
     w .bytes
     ∙ ap (λ (z : List Pauli). sets old (2 * 0) (bytesOf (tableauNumbers z))) (ap (tab g) e ∙ sym table)
-    ∙ write-front old (bytesOf (tableauNumbers t)) (omega (arith, bytes-length (tableauNumbers t), ap (λ (z : List Pauli). length (tableauNumbers z)) table, columns-length n g (2 * n) h))
+    ∙ write-front old (bytesOf (tableauNumbers t)) (omega (arith, bytes-length (tableauNumbers t), ap (λ (z : List Pauli). length (tableauNumbers z)) table, columns-length n g m h))

@@ -28,7 +28,7 @@ column-range zero pos (more c cs) = c
 column-range (suc j) pos (more c cs) = column-range j pos cs
 
 module _ {d n : ℕ} {f : Pauli → Pauli} (keeps : (p : Pauli) → InRange d n p → InRange d n (f p)) where
-  map-range : {t : List Pauli} → AllInRange d n t → AllInRange d n (map f t)
+  pub map-range : {t : List Pauli} → AllInRange d n t → AllInRange d n (map f t)
   map-range none = none
   map-range (more {c = c} r rs) = more (keeps c r) (map-range rs)
 

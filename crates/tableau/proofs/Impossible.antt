@@ -4,11 +4,11 @@ use mathlib.Core.Path.{_≡_, refl, subst}
 use mathlib.Core.List.{List, [], _∷_}
 use mathlib.Core.Logic.{_⊎_, inl, inr}
 use mathlib.Core.Bool.{Bool, true, false, _&&_}
-use Prim.Native.Nat.{ℕ, zero, suc, _*_, _<_}
+use Prim.Native.Nat.{ℕ, zero, suc, _*_, _/_, _%_, _<_}
 use native.Mathlib.Omega.{arith}
 use lib.ListN.{length}
 use lib.Dec.{leb, ltb, eqb}
-use Rattle.arith.specs.Refusals.{refusalNumber, orElse, unlessHolds, dimensionOf, widthOf, givenOf, sizeOf, roomOf, rangeOf, pairingOf, parityOf}
+use Rattle.arith.specs.Refusals.{refusalNumber, orElse, unlessHolds, dimensionOf, widthOf, givenOf, sizeOf, wholeOf, roomOf, rangeOf, pairingOf, parityOf}
 use Rattle.arith.specs.declared.checks.Refusal.{Refusal}
 use Rattle.arith.specs.declared.checks.Refusal.the-variants.{Dimension, Width, Length, Room, Range}
 use Rattle.arith.proofs.Refusals.{orElse-none, given-good}
@@ -21,6 +21,8 @@ use Rattle.tableau.specs.Bytes.{tableauBytes, decodeTableau}
 use Rattle.tableau.specs.Range.{tableauRangeOf}
 use Rattle.tableau.specs.Soundness.{pairingHolds, parityHolds, soundnessOf, bothSoundnessOf}
 use Rattle.tableau.specs.Calls.{imageRefusal, composeRefusal, inverseRefusal}
+use Rattle.tableau.specs.Batch.{paulisOf, firstRefusal, imagesRefusal}
+use Rattle.tableau.specs.inner.Parts.{testsOf}
 use Rattle.tableau.proofs.Run.{tableau-sound}
 use Rattle.tableau.proofs.Tests.{soundness-says}
 
@@ -103,6 +105,40 @@ image-no-list d n t p room r =
     let h = later (pauliRangeOf d (decode n p)) _ (pauli-below d (decode n p)) (g .1) in
     refused-no-list (given-good (a .0) .dimension .d-low) (decodeTableau n t) (h .1)
 
+-- past 1 to 4 the tests of the tableau are left
+tests-no-list : {d n : ℕ} → 1 < d → (t : List Pauli) → Unrealisable (testsOf d n t) → (rows : List Row) → AllLegal d n rows → tableauOf d n rows ≡ t → ⊥
+tests-no-list {d} one t r = refused-no-list one t (later (tableauRangeOf d t) _ (tableau-below d t) r .1)
+
+-- a batch: no list has the tableau, whichever of the single calls refuses
+none-refused : {r : ℕ} → r ≡ 0 → Unrealisable r → ⊥
+none-refused z (inl e) = omega arith
+none-refused z (inr e) = omega arith
+
+neither-refused : (x y : ℕ) → (Unrealisable x → ⊥) → (Unrealisable y → ⊥) → Unrealisable (orElse x y) → ⊥
+neither-refused zero y f g r = g r
+neither-refused (suc x) y f g r = f r
+
+whole-below : (one most have : ℕ) → wholeOf one most have < 7
+unfolding wholeOf
+whole-below one most have = unless-below Length (eqb (have % one) 0 && leb (have / one) most) (omega arith)
+
+first-no-list : (d n : ℕ) (t : List ℕ) (ps : List (List ℕ)) → Unrealisable (firstRefusal d n t ps) → (rows : List Row) → AllLegal d n rows → tableauOf d n rows ≡ decodeTableau n t → ⊥
+unfolding firstRefusal
+first-no-list d n t [] r rows legal e = none-refused refl r
+first-no-list d n t (p ∷ ps) r rows legal e =
+    neither-refused (imageRefusal d n t p (pauliBytes n)) (firstRefusal d n t ps) (λ u. image-no-list d n t p (pauliBytes n) u rows legal e) (λ u. first-no-list d n t ps u rows legal e) r
+
+pub images-no-list : (d n : ℕ) (t batch : List ℕ) (room : ℕ) → Unrealisable (imagesRefusal d n t batch room)
+    → (rows : List Row) → AllLegal d n rows → tableauOf d n rows ≡ decodeTableau n t → ⊥
+images-no-list d n t batch room r rows legal e =
+    let a = later (givenOf d n) _ (given-below d n) r in
+    let b = later (sizeOf (tableauBytes n) (length t)) _ (size-below (tableauBytes n) (length t)) (a .1) in
+    let c = later (wholeOf (pauliBytes n) 512 (length batch)) _ (whole-below (pauliBytes n) 512 (length batch)) (b .1) in
+    let f = later (roomOf (length batch) room) _ (room-below (length batch) room) (c .1) in
+    neither-refused (firstRefusal d n t (paulisOf n batch)) (testsOf d n (decodeTableau n t))
+    (λ u. first-no-list d n t (paulisOf n batch) u rows legal e)
+    (λ u. tests-no-list (given-good (a .0) .dimension .d-low) (decodeTableau n t) u rows legal e) (f .1)
+
 -- the inverse: no list has the tableau
 pub inverse-no-list : (d n : ℕ) (t : List ℕ) (room : ℕ) → Unrealisable (inverseRefusal d n t room)
     → (rows : List Row) → AllLegal d n rows → tableauOf d n rows ≡ decodeTableau n t → ⊥
@@ -110,8 +146,7 @@ inverse-no-list d n t room r =
     let a = later (givenOf d n) _ (given-below d n) r in
     let b = later (sizeOf (tableauBytes n) (length t)) _ (size-below (tableauBytes n) (length t)) (a .1) in
     let c = later (roomOf (tableauBytes n) room) _ (room-below (tableauBytes n) room) (b .1) in
-    let f = later (tableauRangeOf d (decodeTableau n t)) _ (tableau-below d (decodeTableau n t)) (c .1) in
-    refused-no-list (given-good (a .0) .dimension .d-low) (decodeTableau n t) (f .1)
+    tests-no-list (given-good (a .0) .dimension .d-low) (decodeTableau n t) (c .1)
 
 -- composition: no two lists have the two tableaus
 both-listed : (d n : ℕ) (t u : List Pauli) → soundnessOf d n t ≡ 0 → soundnessOf d n u ≡ 0 → bothSoundnessOf d n t u ≡ 0
@@ -119,10 +154,6 @@ both-listed d n t u e f =
     let a = orElse-none (pairingOf (pairingHolds d n t)) (parityOf (parityHolds d n t)) e in
     let b = orElse-none (pairingOf (pairingHolds d n u)) (parityOf (parityHolds d n u)) f in
     rw (a .0, b .0, a .1) (b .1)
-
-none-refused : {r : ℕ} → r ≡ 0 → Unrealisable r → ⊥
-none-refused z (inl e) = omega arith
-none-refused z (inr e) = omega arith
 
 pub compose-no-lists : (d n : ℕ) (t u : List ℕ) (room : ℕ) → Unrealisable (composeRefusal d n t u room)
     → (rows later-rows : List Row) → AllLegal d n rows → AllLegal d n later-rows → tableauOf d n rows ≡ decodeTableau n t → tableauOf d n later-rows ≡ decodeTableau n u → ⊥

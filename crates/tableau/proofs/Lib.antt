@@ -1,5 +1,6 @@
 pub mod Accepted
 pub mod Answers
+pub mod Batches
 pub mod Bench
 pub mod Bytes
 pub mod Columns
@@ -13,6 +14,7 @@ pub mod Loops
 pub mod Mended
 pub mod Products
 pub mod Run
+pub mod Singles
 pub mod Tests
 pub mod Units
 pub mod Unreduced

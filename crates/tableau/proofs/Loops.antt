@@ -3,23 +3,25 @@ use mathlib.Core.Path.{_≡_, refl, sym, ap, ap₂, _∙_}
 use mathlib.Core.List.{List, _∷_, _++_, map}
 use mathlib.Core.Bool.{Bool, true, false}
 use Prim.Native.Nat.{ℕ, zero, suc, _+_, _*_, _-_, _≤_, _<_}
-use native.Mathlib.Nat.{zero-add}
+use native.Mathlib.Nat.{zero-add, not-suc-le-zero}
 use native.Mathlib.Numerals.{add-one}
 use native.Mathlib.Omega.{arith}
-use lib.ListN.{length, getD, drop, drop-of-length-le, List·getD-append}
+use lib.ListN.{length, getD, take, drop, drop-of-length-le, List·getD-append}
 use lib.Seq.{drop-cons, getD-append-add}
 use Rattle.arith.specs.Bytes.{tab}
 use Rattle.arith.proofs.Bytes.{tab-length, tab-at, tab-ext, tab-list, tab-map}
 use Rattle.arith.specs.Refusals.{orElse, numberOf, pairingOf}
 use Rattle.arith.specs.declared.checks.Check.{Check}
-use Rattle.arith.specs.declared.checks.Check.the-variants.{Refused}
+use Rattle.arith.specs.declared.checks.Check.the-variants.{Good, Refused}
 use Rattle.arith.specs.declared.checks.Refusal.{Refusal}
-use Rattle.arith.proofs.Refusals.{not-zero}
+use Rattle.arith.proofs.Refusals.{good, passes, stop, not-zero}
 use Rattle.pauli.specs.Pauli.{Pauli, product, power, phaseOnly, unit}
 use Rattle.pauli.specs.Range.{pauliRangeOf}
 use Rattle.tableau.specs.Tableau.{upFrom, column, multiplied, image, compose}
 use Rattle.tableau.specs.Inverse.{preimage, inverse}
+use Rattle.tableau.specs.Bytes.{columnAt}
 use Rattle.tableau.specs.Range.{tableauRangeOf}
+use Rattle.tableau.specs.inner.Parts.{paulisAt}
 use Rattle.tableau.specs.Soundness.{all}
 
 -- ---- ranges: column j, then those after it
@@ -30,6 +32,33 @@ ranges-step d n t j h = rw (add-one j, drop-cons t j (phaseOnly n 0) h) refl
 pub ranges-end : (d : ℕ) (t : List Pauli) (j : ℕ) → length t ≤ j → tableauRangeOf d (drop j t) ≡ 0
 unfolding tableauRangeOf
 ranges-end d t j h = rw (drop-of-length-le t h) refl
+
+-- a loop that tests the Paulis of a list one after the other, where those from j on decide: it refuses at j, goes on after j, or has passed all
+pub ranges-refuse : (d n : ℕ) (t : List Pauli) (j : ℕ) {k : Refusal} {r : Check} → j < length t → tableauRangeOf d t ≡ tableauRangeOf d (drop j t) → numberOf r ≡ pauliRangeOf d (column n t j) → r ≡ Refused k → numberOf r ≡ tableauRangeOf d t
+ranges-refuse d n t j h i e g = rw (i ∙ ranges-step d n t j h) (stop _ _ e g .same)
+
+pub ranges-pass-one : (d n : ℕ) (t : List Pauli) (j : ℕ) {r : Check} → j < length t → tableauRangeOf d t ≡ tableauRangeOf d (drop j t) → numberOf r ≡ pauliRangeOf d (column n t j) → r ≡ Good → tableauRangeOf d t ≡ tableauRangeOf d (drop (j + 1) t)
+ranges-pass-one d n t j h i e g = rw (good _ e g) at (i ∙ ranges-step d n t j h)
+
+pub ranges-pass-all : (d : ℕ) (t : List Pauli) (j : ℕ) → length t ≤ j → tableauRangeOf d t ≡ tableauRangeOf d (drop j t) → numberOf Good ≡ tableauRangeOf d t
+ranges-pass-all d t j h i = passes _ (i ∙ ranges-end d t j h)
+
+-- Pauli j of m in bytes
+pub batch-at : (n : ℕ) (b : List ℕ) (m j : ℕ) → j < m → column n (paulisAt n b m) j ≡ columnAt n j b
+batch-at n b m j h = tab-at (λ i. columnAt n i b) m j (phaseOnly n 0) h
+
+pub batch-length : (n : ℕ) (b : List ℕ) (m : ℕ) → length (paulisAt n b m) ≡ m
+batch-length n b m = tab-length (λ j. columnAt n j b) m
+
+-- 5 of the first of them, if there is one
+pub first-none : (d n : ℕ) (b : List ℕ) (m : ℕ) → m ≡ 0 → tableauRangeOf d (take 1 (paulisAt n b m)) ≡ 0
+unfolding tab tableauRangeOf
+first-none d n b m e = rw e refl
+
+pub first-some : (d n : ℕ) (b : List ℕ) (m : ℕ) → 0 < m → tableauRangeOf d (take 1 (paulisAt n b m)) ≡ tableauRangeOf d (paulisAt n b 1)
+unfolding tab
+first-some d n b zero h = absurd (not-suc-le-zero h)
+first-some d n b (suc m) h = refl
 
 -- ---- tests of the numbers from k up to m: before the first turn, k passes, k fails, none is left
 pub all-start : (test : ℕ → Bool) (m : ℕ) → all test (upFrom 0 m) ≡ all test (upFrom 0 (m - 0))
@@ -81,9 +110,9 @@ pub table : {A : Type 0} (f : ℕ → A) (m : ℕ) → map f (upFrom 0 m) ≡ ta
 table f m = table-from f 0 m ∙ tab-ext _ f m (λ i h. ap f (zero-add i))
 
 -- ---- the columns of a tableau that is written, by their numbers
-pub compose-table : (d n : ℕ) (t u : List Pauli) → length t ≡ 2 * n → compose d n t u ≡ tab (λ j. image d n u (column n t j)) (2 * n)
-compose-table d n t u e =
-    ap (map (image d n u)) (sym (ap (tab (column n t)) (sym e) ∙ tab-list (phaseOnly n 0) t)) ∙ tab-map (image d n u) (column n t) (2 * n)
+pub compose-table : (d n m : ℕ) (t u : List Pauli) → length t ≡ m → compose d n t u ≡ tab (λ j. image d n u (column n t j)) m
+compose-table d n m t u e =
+    ap (map (image d n u)) (sym (ap (tab (column n t)) (sym e) ∙ tab-list (phaseOnly n 0) t)) ∙ tab-map (image d n u) (column n t) m
 
 pub inverse-table : (d n : ℕ) (t : List Pauli) → inverse d n t ≡ tab (λ j. preimage d n t (unit n j)) (2 * n)
 inverse-table d n t = ap (map (preimage d n t)) (table (unit n) (2 * n)) ∙ tab-map (preimage d n t) (unit n) (2 * n)

@@ -5,4 +5,5 @@ pub mod Inverse
 pub mod Bytes
 pub mod Range
 pub mod Calls
+pub mod Batch
 pub mod inner

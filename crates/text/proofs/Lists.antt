@@ -1,19 +1,19 @@
 -- What the text program prints for an L file: its tableau, or a refusal. Assumes nothing.
 use mathlib.Core.Path.{_≡_, refl, sym, ap, ap₂, _∙_}
 use mathlib.Core.Logic.{_≢_}
-use mathlib.Core.Bool.{Bool, true, false, _&&_}
+use mathlib.Core.Bool.{Bool, true, _&&_}
 use mathlib.Core.List.{List, [], _∷_, _++_, map}
-use Prim.Native.Nat.{ℕ, zero, suc, _+_, _*_, _%_, _≤_}
+use Prim.Native.Nat.{ℕ, zero, suc, _+_, _*_, _/_, _%_, _≤_}
 use native.Mathlib.Omega.{arith}
 use lib.ListN.{length, take, drop, length-map, length-append}
 use lib.Seq.{take-at, length-take-le}
 use lib.Dec.{leb, eqb}
-use borrow.Author.Tests.{leb-true, leb-false, le-leb, lt-leb, eq-eqb}
+use borrow.Author.Tests.{eq-eqb}
 use Rattle.arith.specs.Bytes.{bytesOf, front}
 use Rattle.arith.specs.Answers.{Written}
 use Rattle.arith.specs.declared.checks.Refusal.the-variants.{Length}
-use Rattle.arith.specs.Refusals.{orElse, givenOf, listSizeOf, roomOf, rowOf, unlessHolds}
-use Rattle.arith.proofs.Refusals.{given-good}
+use Rattle.arith.specs.Refusals.{orElse, givenOf, wholeOf, listSizeOf, roomOf, rowOf, unlessHolds}
+use Rattle.arith.proofs.Refusals.{orElse-past, given-good}
 use Rattle.arith.proofs.Passes.{room-passes}
 use Rattle.pauli.specs.Pauli.{Pauli}
 use Rattle.pauli.specs.Bytes.{numbersOf}
@@ -64,27 +64,13 @@ pub some-refused : (x : ℕ) → x ≢ 0 → Refused x ≡ outcomeOf x
 some-refused zero h = absurd (h refl)
 some-refused (suc x) h = refl
 
--- past 1 and 2, or not past them
-pub given-first : (d n x y : ℕ) → (givenOf d n ≡ 0 → x ≡ y) → orElse (givenOf d n) x ≡ orElse (givenOf d n) y
-given-first d n x y h = go (givenOf d n) refl
-  where
-    go : (g : ℕ) → givenOf d n ≡ g → orElse g x ≡ orElse g y
-    go zero e = h e
-    go (suc g) e = refl
-
 -- ---- the refusals of a list are those of its rows
-large-lists : (k : ℕ) → leb (8 * k) (8 * 4096) ≡ leb k 4096
-large-lists k = go (leb k 4096) refl
-  where
-    go : (b : Bool) → leb k 4096 ≡ b → leb (8 * k) (8 * 4096) ≡ b
-    go true e = le-leb (8 * k) (8 * 4096) (omega (arith, leb-true k 4096 e))
-    go false e = lt-leb (8 * k) (8 * 4096) (omega (arith, leb-false k 4096 e))
-
 list-size : (k : ℕ) → listSizeOf (8 * k) ≡ rowCountOf k
-unfolding listSizeOf rowCountOf
+unfolding wholeOf listSizeOf rowCountOf
 list-size k =
     let e : eqb (8 * k % 8) 0 ≡ true = eq-eqb (8 * k % 8) 0 (omega arith) in
-    ap₂ (λ (a b : Bool). unlessHolds Length (a && b)) e (large-lists k)
+    let f : 8 * k / 8 ≡ k = omega arith in
+    ap₂ (λ (a b : Bool). unlessHolds Length (a && b)) e (ap (λ (m : ℕ). leb m 4096) f)
 
 pub rows-concatenated : (rows : List WrittenRow) → concatenated rowNumbers rows ≡ listNumbers rows
 unfolding concatenated listNumbers
@@ -92,7 +78,7 @@ rows-concatenated [] = refl
 rows-concatenated (w ∷ ws) = ap (λ (l : List ℕ). rowNumbers w ++ l) (rows-concatenated ws)
 
 refusal-same : (d n : ℕ) (list : List ℕ) (rows : List WrittenRow) (room : ℕ) → list ≡ encodeRows rows → 2112 ≤ room → tableauRefusal d n list room ≡ listRefusal d n rows
-refusal-same d n list rows room e h = given-first d n _ _ (λ g. ap₂ orElse sized (ap₂ orElse (roomy (given-good g .width .n-high)) rowed))
+refusal-same d n list rows room e h = orElse-past (givenOf d n) (λ g. ap₂ orElse sized (ap₂ orElse (roomy (given-good g .width .n-high)) rowed))
   where
     sized : listSizeOf (length list) ≡ rowCountOf (length rows)
     sized = ap listSizeOf (ap length e ∙ rows-bytes rows) ∙ list-size (length rows)

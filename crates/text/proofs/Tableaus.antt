@@ -16,7 +16,7 @@ use Rattle.arith.specs.declared.checks.Check.{Check}
 use Rattle.arith.specs.declared.checks.Check.the-variants.{Good, Refused}
 use Rattle.arith.specs.declared.checks.Answer.{Answer}
 use Rattle.arith.proofs.Bytes.{tab-cons, tab-append, tab-ext, tab-length, tab-map, bytes-length}
-use Rattle.arith.proofs.Refusals.{Given, good, stop, not-zero, orElse-none, orElse-assoc, given-good, size-good, held, both-held}
+use Rattle.arith.proofs.Refusals.{Given, good, stop, not-zero, orElse-none, orElse-past, orElse-assoc, given-good, size-good, held, both-held}
 use Rattle.arith.proofs.Passes.{size-passes, room-passes}
 use Rattle.pauli.specs.Pauli.{Pauli}
 use Rattle.pauli.specs.Bytes.{decodeAt}
@@ -34,7 +34,6 @@ use Rattle.text.specs.Convert.{fullColumns, pauliOf, countsOf, columnsMa
 use Rattle.text.specs.inner.FromBytes.{TableauConverts, ColumnsConvert}
 use Rattle.text.proofs.Digits.{five-digits}
 use Rattle.text.proofs.Back.{full-length, columns-back}
-use Rattle.text.proofs.Lists.{given-first}
 use Rattle.text.proofs.Unique.{refusal-unique, refusal-no-list}
 
 -- ---- the tableau in the bytes is that of the columns
@@ -96,7 +95,7 @@ module _ (d n : ℕ) (bytes : List ℕ) (columns : List (List ℕ)) (full : full
   decoded = ap (decodeTableau n) same ∙ columns-decoded n columns full many
 
   malformed-same : (room : ℕ) → 11008 ≤ room → malformedOf d n bytes room ≡ columnsMalformed d n columns
-  malformed-same room large = given-first d n _ _ (λ e. rest (given-good e .width .n-high))
+  malformed-same room large = orElse-past (givenOf d n) (λ e. rest (given-good e .width .n-high))
     where
       rest : n ≤ 16 → orElse (sizeOf (tableauBytes n) (length bytes)) (orElse (roomOf (40 * (n * n) + 48 * n) room) (tableauRangeOf d (decodeTableau n bytes)))
           ≡ orElse (countsOf n (length columns) (fullColumns n columns)) (tableauRangeOf d (map (pauliOf n) columns))

@@ -1,6 +1,7 @@
-//! The twelve public calls on bytes. Each runs its tests in the order of the
+//! The thirteen public calls on bytes. Each runs its tests in the order of the
 //! table over all its inputs and answers with the first that fails; it writes
-//! to the output only after all of them hold.
+//! to the output only after all of them hold. (Images tests the Paulis after its
+//! first last, one by one.)
 
 use crate::{Pauli, Row, Tableau};
 
@@ -52,6 +53,7 @@ fn number(result: Checked<()>) -> u16 {
 
 pub const ROW_LEN: usize = 8;
 pub const MOST_ROWS: usize = 4096;
+pub const MOST_PAULIS: usize = 512;
 
 pub fn pauli_len(n: usize) -> usize {
     2 * (1 + 2 * n)
@@ -162,6 +164,13 @@ fn list_length(list: &[u8]) -> Checked<()> {
     )
 }
 
+fn batch_length(paulis: &[u8], n: usize) -> Checked<()> {
+    refuse_unless(
+        paulis.len() % pauli_len(n) == 0 && paulis.len() / pauli_len(n) <= MOST_PAULIS,
+        LENGTH,
+    )
+}
+
 fn room(out: &[u8], needed: usize) -> Checked<()> {
     refuse_unless(out.len() >= needed, ROOM)
 }
@@ -190,6 +199,13 @@ fn pairing(tableau: &[Pauli], d: i64) -> Checked<()> {
 
 fn parity(tableau: &[Pauli], d: i64) -> Checked<()> {
     refuse_unless(crate::parity_holds(tableau, d), PARITY)
+}
+
+fn sound_tableau(bytes: &[u8], d: i64, n: usize) -> Checked<Tableau> {
+    let tableau = tableau_in_range(bytes, d, n)?;
+    pairing(&tableau, d)?;
+    parity(&tableau, d)?;
+    Ok(tableau)
 }
 
 // --------------------------------------------------------------------- calls
@@ -295,9 +311,7 @@ pub fn synthesis(d: u16, n: u16, tableau: &[u8], out: &mut [u8]) -> Answer {
         let n = width(n)?;
         length(tableau, tableau_len(n))?;
         room(out, synthesis_room(n))?;
-        let tableau = tableau_in_range(tableau, d, n)?;
-        pairing(&tableau, d)?;
-        parity(&tableau, d)?;
+        let tableau = sound_tableau(tableau, d, n)?;
         let rows = crate::synthesis(&tableau, d);
         write(out, &bytes_of_rows(&rows));
         Ok(rows.len() as i64)
@@ -316,6 +330,30 @@ pub fn image(d: u16, n: u16, tableau: &[u8], p: &[u8], out: &mut [u8]) -> u16 {
         pairing(&tableau, d)?;
         parity(&tableau, d)?;
         write(out, &bytes_of_pauli(&crate::image(&tableau, &p, d)));
+        Ok(())
+    })())
+}
+
+/// What single calls of `image` give, made in order: the images end to end, or
+/// the first refusal.
+pub fn images(d: u16, n: u16, tableau: &[u8], paulis: &[u8], out: &mut [u8]) -> u16 {
+    number((|| {
+        let (dim, wide) = (dimension(d)?, width(n)?);
+        length(tableau, tableau_len(wide))?;
+        batch_length(paulis, wide)?;
+        room(out, paulis.len())?;
+        // No single call is made for the empty batch, so none tests the tableau.
+        if paulis.is_empty() {
+            sound_tableau(tableau, dim, wide)?;
+        }
+        let mut images = Vec::new();
+        for p in paulis.chunks_exact(pauli_len(wide)) {
+            let mut one = vec![0; pauli_len(wide)];
+            let refusal = image(d, n, tableau, p, &mut one);
+            refuse_unless(refusal == 0, refusal)?;
+            images.extend(one);
+        }
+        write(out, &images);
         Ok(())
     })())
 }
@@ -344,9 +382,7 @@ pub fn inverse(d: u16, n: u16, tableau: &[u8], out: &mut [u8]) -> u16 {
         let n = width(n)?;
         length(tableau, tableau_len(n))?;
         room(out, tableau_len(n))?;
-        let tableau = tableau_in_range(tableau, d, n)?;
-        pairing(&tableau, d)?;
-        parity(&tableau, d)?;
+        let tableau = sound_tableau(tableau, d, n)?;
         write(out, &bytes_of_tableau(&crate::inverse(&tableau, d)));
         Ok(())
     })())

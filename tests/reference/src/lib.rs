@@ -3,7 +3,7 @@
 //! close to the words of the rules and takes no short cut for speed.
 //!
 //! This file has the mathematics: numbers are `i64` and always reduced.
-//! `calls` has the twelve public calls on bytes, `text` the text program,
+//! `calls` has the thirteen public calls on bytes, `text` the text program,
 //! `random` the seeded inputs.
 
 pub mod calls;

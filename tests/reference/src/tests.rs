@@ -291,6 +291,99 @@ fn paulis_touch_what_they_are_drawn_for() {
     }
 }
 
+/// The number of a batch, and its output, which held 0xA5 in every byte.
+fn images_given(d: u16, n: u16, tableau: &[u8], paulis: &[u8], room: usize) -> (u16, Vec<u8>) {
+    let mut out = vec![0xA5; room];
+    let number = calls::images(d, n, tableau, paulis, &mut out);
+    (number, out)
+}
+
+#[test]
+fn images_by_hand() {
+    let rows = [row(F, 1, 0, 1), row(A, 1, 2, 1), row(Z, 2, 0, 3)];
+    let tableau = calls::bytes_of_tableau(&tableau_of_list(&rows, 4, 2));
+    let paulis = calls::bytes([7, 1, 2, 3, 0, 1, 3, 3, 0, 2]);
+    let wanted = calls::bytes([3, 1, 3, 1, 0, 3, 0, 3, 1, 2]);
+    let (number, out) = images_given(4, 2, &tableau, &paulis, 23);
+    assert_eq!(
+        (number, &out[..20], &out[20..]),
+        (0, &wanted[..], &[0xA5; 3][..])
+    );
+    assert_eq!(images_given(4, 2, &tableau, &[], 0), (0, vec![]));
+    let most = paulis.repeat(256);
+    assert_eq!(
+        images_given(4, 2, &tableau, &most, 5120),
+        (0, wanted.repeat(256))
+    );
+}
+
+/// The first Pauli is tested before the tableau is tested for soundness, later
+/// ones after that; lengths and room before either.
+#[test]
+fn images_refusals() {
+    let (d, n, pauli) = (6, 1, 6);
+    let fits = [11, 5, 5];
+    for (columns, refusal) in [
+        ([0, 1, 0, 0, 0, 1], 0),
+        ([0, 1, 6, 0, 0, 1], calls::RANGE),
+        ([0, 0, 0, 0, 0, 1], calls::PAIRING),
+        ([1, 1, 0, 0, 0, 1], calls::PARITY),
+    ] {
+        let tableau = calls::bytes(columns);
+        let given = |d, n, tableau: &[u8], paulis: &[u8], room| {
+            let (number, out) = images_given(d, n, tableau, paulis, room);
+            let written = out.iter().any(|&byte| byte != 0xA5);
+            assert_eq!(
+                written,
+                number == 0 && !paulis.is_empty(),
+                "{columns:?} {paulis:?}"
+            );
+            number
+        };
+        for large in [[12, 5, 5], [11, 6, 5], [11, 5, 6]] {
+            let later = if refusal == 0 { calls::RANGE } else { refusal };
+            for (batch, wanted) in [
+                (vec![], refusal),
+                (vec![fits], refusal),
+                (vec![fits, fits, fits], refusal),
+                (vec![large], calls::RANGE),
+                (vec![large, fits, large], calls::RANGE),
+                (vec![fits, large, fits], later),
+                (vec![fits, fits, large], later),
+            ] {
+                let paulis = calls::bytes(batch.concat());
+                let room = paulis.len();
+                assert_eq!(
+                    given(d, n, &tableau, &paulis, room),
+                    wanted,
+                    "{columns:?} {batch:?}"
+                );
+                let broken = [&paulis[..], &[0]].concat();
+                assert_eq!(given(d, n, &tableau, &broken, room), calls::LENGTH);
+                assert_eq!(given(d, n, &tableau[1..], &paulis, room), calls::LENGTH);
+                assert_eq!(given(d, 17, &tableau[1..], &broken, room), calls::WIDTH);
+                assert_eq!(
+                    given(1025, 17, &tableau[1..], &broken, room),
+                    calls::DIMENSION
+                );
+                if room > 0 {
+                    assert_eq!(given(d, n, &tableau, &paulis, room - 1), calls::ROOM);
+                    assert_eq!(given(d, n, &tableau, &broken, room - 1), calls::LENGTH);
+                }
+            }
+        }
+        let paulis = calls::bytes(fits).repeat(calls::MOST_PAULIS + 1);
+        let (room, most) = (paulis.len(), paulis.len() - pauli);
+        assert_eq!(given(d, n, &tableau, &paulis, room), calls::LENGTH);
+        assert_eq!(
+            given(d, n, &tableau, &paulis[..most + 1], room),
+            calls::LENGTH
+        );
+        assert_eq!(given(d, n, &tableau, &paulis[..most], room), refusal);
+        assert_eq!(given(d, n, &tableau, &paulis[..most], pauli), calls::ROOM);
+    }
+}
+
 #[test]
 fn limits_of_d_and_n() {
     for d in [0, 1, 2, 1024, 1025, u16::MAX] {

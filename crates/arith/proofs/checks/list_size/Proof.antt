@@ -1,5 +1,4 @@
--- `arith::checks::list_size` meets its contract: each answer by the tests that led to it.
-use borrow.Author.Tests.{eq-eqb, ne-eqb, lt-leb, le-leb}
+-- `arith::checks::list_size` meets its contract: rows are items of 8 bytes.
 use Rattle.arith.specs.Refusals.{listSizeOf}
 use native.Mathlib.Omega.{arith}
 use borrow.Author.Needs.{needs}
@@ -9,6 +8,5 @@ use Rattle.arith.proofs.checks.list_size.Tie as tie
 pub list-size-spec : {M : Type 1} → statement M
 unfolding listSizeOf
 list-size-spec = tie.close (tie.spec
-    (λ c. simp (ne-eqb _ _ (c .if1 .taken)))  -- returns
-    (λ c. simp (eq-eqb _ _ (c .before .if1 .left), lt-leb _ _ (c .if2 .taken)))  -- returns-2
-    (λ c. simp (eq-eqb _ _ (c .before .if1 .left), le-leb _ _ (c .if2 .left))))  -- returns-3
+    (λ c κs. search needs)  -- whole-requires
+    (λ c. c .whole .ensures))  -- returns

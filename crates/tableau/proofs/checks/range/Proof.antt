@@ -1,11 +1,10 @@
 -- `tableau::checks::range` meets its contract. The invariant: the columns from j on decide.
-use mathlib.Core.Path.{_≡_, refl, _∙_}
+use mathlib.Core.Path.{_≡_, refl}
 use Prim.Native.Nat.{_-_, _≤_}
 use lib.ListN.{drop}
-use Rattle.arith.proofs.Refusals.{good, stop, passes}
 use Rattle.tableau.specs.Range.{tableauRangeOf}
 use Rattle.tableau.specs.inner.View.{tableView}
-use Rattle.tableau.proofs.Loops.{ranges-step, ranges-end}
+use Rattle.tableau.proofs.Loops.{ranges-refuse, ranges-pass-one, ranges-pass-all}
 use Rattle.tableau.proofs.Views.{table-length}
 use native.Mathlib.Omega.{arith}
 use borrow.Author.Needs.{needs}
@@ -21,19 +20,19 @@ abbrev μ-loop : tie.MeasureT-loop
 returns : tie.Need-returns Inv-loop μ-loop
 returns c =
     let a = c .before .before .before .before .before .before .args in
-    let e = c .before .before .before .before .before .loop .inv .1 ∙ ranges-step (a .d) (a .n) (tableView (a .n) (a .t .now)) (c .before .before .before .before .before .loop .j) (omega (arith, table-length (a .n) (a .t .now))) in
-    rw e (stop _ _ (rw (c .before .before .before .column .ensures .0) at (c .before .before .range .ensures)) (c .enum-told2 .given .1) .same)
+    let l = c .before .before .before .before .before .loop in
+    ranges-refuse (a .d) (a .n) (tableView (a .n) (a .t .now)) (l .j) (omega (arith, table-length (a .n) (a .t .now))) (l .inv .1) (rw (c .before .before .before .column .ensures .0) at (c .before .before .range .ensures)) (c .enum-told2 .given .1)
 
 loop-again : tie.Need-loop-again Inv-loop μ-loop
 loop-again c =
     let a = c .before .before .before .before .before .before .args in
-    let e = c .before .before .before .before .before .loop .inv .1 ∙ ranges-step (a .d) (a .n) (tableView (a .n) (a .t .now)) (c .before .before .before .before .before .loop .j) (omega (arith, table-length (a .n) (a .t .now))) in
-    (omega arith, rw (good _ (rw (c .before .before .before .column .ensures .0) at (c .before .before .range .ensures)) (c .enum-told .given .1)) at e)
+    let l = c .before .before .before .before .before .loop in
+    (omega arith, ranges-pass-one (a .d) (a .n) (tableView (a .n) (a .t .now)) (l .j) (omega (arith, table-length (a .n) (a .t .now))) (l .inv .1) (rw (c .before .before .before .column .ensures .0) at (c .before .before .range .ensures)) (c .enum-told .given .1))
 
 returns-2 : tie.Need-returns-2 Inv-loop μ-loop
 returns-2 c =
     let a = c .before .before .args in
-    passes _ (c .before .loop .inv .1 ∙ ranges-end (a .d) (tableView (a .n) (a .t .now)) (c .before .loop .j) (omega (arith, table-length (a .n) (a .t .now))))
+    ranges-pass-all (a .d) (tableView (a .n) (a .t .now)) (c .before .loop .j) (omega (arith, table-length (a .n) (a .t .now))) (c .before .loop .inv .1)
 
 pub range-spec : {M : Type 1} → statement M
 range-spec = tie.close (tie.spec Inv-loop μ-loop

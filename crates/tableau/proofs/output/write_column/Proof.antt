@@ -1,4 +1,5 @@
 -- `tableau::output::write_column` meets its contract: column j stands at number j·(1 + 2n).
+use Prim.Native.Nat.{_*_}
 use Rattle.tableau.proofs.Bytes.{column-inside, column-small}
 use native.Mathlib.Omega.{arith}
 use borrow.Author.Needs.{needs}
@@ -13,7 +14,7 @@ mul-write-2 c =
 write-requires : tie.Need-write-requires
 write-requires c κs =
     let a = c .before .before .args in
-    (omega arith, omega (arith, column-inside (a .n) (a .j) (omega arith)))
+    (omega arith, omega (arith, column-inside (a .n) (2 * a .n) (a .j) (omega arith)))
 
 pub write-column-spec : {M : Type 1} → statement M
 write-column-spec = tie.close (tie.spec

@@ -2,7 +2,7 @@
 -- column j of the first, mapped by the second
 use mathlib.Core.Path.{ap, _∙_}
 use mathlib.Core.List.{List}
-use Prim.Native.Nat.{ℕ, _-_, _≤_, _<_}
+use Prim.Native.Nat.{ℕ, _*_, _-_, _≤_, _<_}
 use Rattle.pauli.specs.Pauli.{Pauli}
 use Rattle.tableau.specs.Tableau.{column, image}
 use Rattle.tableau.specs.inner.View.{tableView}
@@ -44,7 +44,7 @@ returns c =
     let a = c .before .before .before .args in
     let l = c .before .loop in
     let f = c .before .before .before .pre .1 .0 in
-    columns-all (a .n) (mapped (a .first .now) (a .second .now) (a .d) (a .n)) (omega arith) (compose-table (a .d) (a .n) (tableView (a .n) (a .first .now)) (tableView (a .n) (a .second .now)) (f .0 .columns)) (λ i. numbers-length (image-range (omega (arith, c .before .before .before .pre .0)) (f .1 .ranges) (column-range i (omega (arith, c .before .before .before .pre .0)) (f .0 .ranges)))) (c .before .before .before .pre .1 .1) (l .inv .1)
+    columns-all (a .n) (2 * a .n) (mapped (a .first .now) (a .second .now) (a .d) (a .n)) (omega arith) (compose-table (a .d) (a .n) (2 * a .n) (tableView (a .n) (a .first .now)) (tableView (a .n) (a .second .now)) (f .0 .columns)) (λ i. numbers-length (image-range (omega (arith, c .before .before .before .pre .0)) (f .1 .ranges) (column-range i (omega (arith, c .before .before .before .pre .0)) (f .0 .ranges)))) (c .before .before .before .pre .1 .1) (l .inv .1)
 
 pub write-composed-spec : {M : Type 1} → statement M
 write-composed-spec = tie.close (tie.spec Inv-loop μ-loop

@@ -2,7 +2,7 @@
 -- the Pauli that t carries to unit Pauli j
 use mathlib.Core.Path.{ap, _∙_}
 use mathlib.Core.List.{List}
-use Prim.Native.Nat.{ℕ, _-_, _≤_, _<_}
+use Prim.Native.Nat.{ℕ, _*_, _-_, _≤_, _<_}
 use Rattle.pauli.specs.Pauli.{Pauli, unit}
 use Rattle.pauli.proofs.Units.{unit-range}
 use Rattle.tableau.specs.Inverse.{preimage}
@@ -42,7 +42,7 @@ returns c =
     let a = c .before .before .before .args in
     let l = c .before .loop in
     let f = c .before .before .before .pre .1 .0 in
-    columns-all (a .n) (undone (a .t .now) (a .d) (a .n)) (omega arith) (inverse-table (a .d) (a .n) (tableView (a .n) (a .t .now))) (λ i. numbers-length (preimage-range (omega (arith, c .before .before .before .pre .0)) (f .0) (f .1) (unit (a .n) i) (unit-range (a .d) (a .n) i (omega (arith, c .before .before .before .pre .0))))) (c .before .before .before .pre .1 .1) (l .inv .1)
+    columns-all (a .n) (2 * a .n) (undone (a .t .now) (a .d) (a .n)) (omega arith) (inverse-table (a .d) (a .n) (tableView (a .n) (a .t .now))) (λ i. numbers-length (preimage-range (omega (arith, c .before .before .before .pre .0)) (f .0) (f .1) (unit (a .n) i) (unit-range (a .d) (a .n) i (omega (arith, c .before .before .before .pre .0))))) (c .before .before .before .pre .1 .1) (l .inv .1)
 
 pub write-inverse-spec : {M : Type 1} → statement M
 write-inverse-spec = tie.close (tie.spec Inv-loop μ-loop

@@ -1,7 +1,7 @@
 -- `tableau::output::write_table` meets its contract. The invariant: column after column is written (`ColumnsWritten`).
 use mathlib.Core.Path.{refl, _∙_}
 use mathlib.Core.List.{List, []}
-use Prim.Native.Nat.{ℕ, _-_, _≤_}
+use Prim.Native.Nat.{ℕ, _*_, _-_, _≤_}
 use lib.ListN.{getD}
 use Rattle.pauli.specs.Pauli.{Pauli}
 use Rattle.tableau.specs.inner.View.{columnView}
@@ -34,7 +34,7 @@ returns : tie.Need-returns Inv-loop μ-loop
 returns c =
     let s = c .before .before .before in
     let a = s .args in
-    columns-all (a .n) (seen (a .t .now) (a .n)) (omega arith) (view-table (a .n) (a .t .now) (seen (a .t .now) (a .n)) (λ k h. refl)) (λ k. view-length (a .n) (getD (a .t .now) k [])) (s .pre .1) (c .before .loop .inv .1)
+    columns-all (a .n) (2 * a .n) (seen (a .t .now) (a .n)) (omega arith) (view-table (a .n) (a .t .now) (seen (a .t .now) (a .n)) (λ k h. refl)) (λ k. view-length (a .n) (getD (a .t .now) k [])) (s .pre .1) (c .before .loop .inv .1)
 
 pub write-table-spec : {M : Type 1} → statement M
 write-table-spec = tie.close (tie.spec Inv-loop μ-loop

@@ -27,7 +27,7 @@ read-column-requires : tie.Need-read-column-requires Inv-loop μ-loop
 read-column-requires c κs =
     let s = c .before .before .before .before in
     let l = c .before .before .loop in
-    ((s .pre .0 .0, omega (arith, column-inside (s .args .n) (l .j) (omega arith), s .pre .1)), l .inv .1 .1 .shaped .places (l .j) (omega arith))
+    ((s .pre .0 .0, omega (arith, column-inside (s .args .n) (2 * s .args .n) (l .j) (omega arith), s .pre .1)), l .inv .1 .1 .shaped .places (l .j) (omega arith))
 
 loop-again : tie.Need-loop-again Inv-loop μ-loop
 loop-again c =
