@@ -18,7 +18,10 @@ pub run-hom : {d n : ℕ} {rs : List Row} → 1 < d → AllLegal d n rs → Hom 
 run-hom {d} {n} large none = hom-id d n
 run-hom large (more {r = r} l a) = hom-then (row-hom r large l) (run-hom large a)
 
--- a loop over a table of rows: none taken, and after row i
+-- a loop over a table of rows: one row more, none taken, and after row i
+pub rows-more : (f : ℕ → WrittenRow) (i : ℕ) → map meant (tab f (i + 1)) ≡ map meant (tab f i) ++ (meant (f i) ∷ [])
+rows-more f i = ap (map meant) (tab-more f i) ∙ map-append meant (tab f i) (f i ∷ [])
+
 pub run-start : (d : ℕ) (f : ℕ → WrittenRow) (p : Pauli) → p ≡ run d (map meant (tab f 0)) p
 unfolding tab
 run-start d f p = refl
@@ -28,7 +31,7 @@ run-next d f i p e g =
     g
     ∙ ap (apply d (meant (f i))) e
     ∙ sym (run-append d (map meant (tab f i)) (meant (f i) ∷ []) p)
-    ∙ ap (λ (l : List Row). run d l p) (sym (map-append meant (tab f i) (f i ∷ [])) ∙ ap (map meant) (sym (tab-more f i)))
+    ∙ ap (λ (l : List Row). run d l p) (sym (rows-more f i))
 
 -- ---- rows kept with the last one first
 -- what they carry a Pauli to

@@ -126,6 +126,18 @@ impl Row {
         }
     }
 
+    // The second qudit, counted from 0: the first again where the kind takes one.
+    pub fn other(self) -> usize
+        requires { ⌜ (1 ≤ self .first) × (takesTwo (self .kind) ≡ true → 1 ≤ self .second) ⌝ }
+        ensures { λ r. ⌜ r ≡ otherOf (viewRow self) ⌝ }
+    {
+        let kind = self.kind;
+        match kind {
+            3 => self.second as usize - 1,
+            _ => self.first as usize - 1,
+        }
+    }
+
     // The row with what its effect needs besides.
     pub fn ready(self, d: u16) -> Ready
         requires { ⌜ Dimension d × (self .kind ≡ 4 → (self .power < d) × IsUnit d (self .power)) ⌝ }
@@ -146,19 +158,6 @@ impl Row {
 }
 
 impl Ready {
-    // The second qudit, counted from 0: the first again where the kind takes one.
-    pub fn other(self) -> usize
-        requires { ⌜ (1 ≤ self .row .first) × (takesTwo (self .row .kind) ≡ true → 1 ≤ self .row .second) ⌝ }
-        ensures { λ r. ⌜ r ≡ otherOf (viewRow (self .row)) ⌝ }
-    {
-        let row = self.row;
-        let kind = row.kind;
-        match kind {
-            3 => row.second as usize - 1,
-            _ => row.first as usize - 1,
-        }
-    }
-
     // What the row makes of the numbers that it touches.
     pub fn act(self, t: Touched, d: u16) -> Touched
         requires { ⌜ Dimension d × InverseRight d self ⌝ }

@@ -1,7 +1,7 @@
 -- Refusal 5: the larger of two numbers, a loop over v and w, what holds once 5 is past, and what passes it. Assumes nothing.
 use mathlib.Core.Path.{_≡_, refl, sym, ap, ap₂, _∙_}
 use mathlib.Core.List.{List, [], _∷_}
-use Prim.Native.Nat.{ℕ, zero, suc, _+_, _*_, _≤_, _<_}
+use Prim.Native.Nat.{ℕ, zero, suc, _+_, _*_, _≤_, _<_, max}
 use native.Mathlib.Numerals.{add-one}
 use native.Mathlib.Omega.{arith}
 use lib.ListN.{length}
@@ -19,16 +19,21 @@ range-out : {d x : ℕ} → d ≤ x → rangeOf d x ≡ 5
 unfolding rangeOf
 range-out {d} {x} h = ltb-case (λ b. unlessHolds Range b ≡ 5) x d (λ l. absurd (omega arith)) (λ l. refl)
 
--- the larger of two is the second, or the first
-pub second-larger : (d x y : ℕ) → x < y → rangeOf d y ≡ orElse (rangeOf d x) (rangeOf d y)
+-- the larger of two is the second, or the first: it is out of range where one of the two is
+second-larger : (d x y : ℕ) → x < y → rangeOf d y ≡ orElse (rangeOf d x) (rangeOf d y)
 second-larger d x y h = by-less x d
     (λ l. rw (range-passes l))
     (λ l. rw (range-out l, range-out {d = d} {x = y} (omega arith)))
 
-pub first-larger : (d x y : ℕ) → y ≤ x → rangeOf d x ≡ orElse (rangeOf d x) (rangeOf d y)
+first-larger : (d x y : ℕ) → y ≤ x → rangeOf d x ≡ orElse (rangeOf d x) (rangeOf d y)
 first-larger d x y h = by-less x d
     (λ l. rw (range-passes l, range-passes {bound = d} {x = y} (omega arith)))
     (λ l. rw (range-out l))
+
+pub range-larger : (d x y : ℕ) → rangeOf d (max x y) ≡ orElse (rangeOf d x) (rangeOf d y)
+range-larger d x y = by-less x y
+    (λ l. let e : max x y ≡ y = omega arith in rw e (second-larger d x y l))
+    (λ l. let e : max x y ≡ x = omega arith in rw e (first-larger d x y l))
 
 -- ---- a loop over two tables: no number yet, and one more of each
 pub bounds-none : (d : ℕ) (f g : ℕ → ℕ) → 0 < d → rangeOf d 0 ≡ orElse (boundsOf d (tab f 0)) (boundsOf d (tab g 0))

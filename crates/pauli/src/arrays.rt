@@ -1,11 +1,12 @@
 // Loops over the entries of a Pauli: the first n of an array of 16.
 use arith::checks::Check;
+use arith::numbers::larger;
 use arith::residue::Residue;
 ghost use mathlib.Core.Path.{_≡_};
 ghost use Prim.Native.Nat.{ℕ, _+_, _*_, _≤_, _<_};
 ghost use lib.ListN.{getD};
 ghost use Rattle.arith.specs.Bytes.{tab};
-ghost use Rattle.arith.specs.Refusals.{Dimension, numberOf, orElse, rangeOf};
+ghost use Rattle.arith.specs.Refusals.{Dimension, numberOf, orElse};
 ghost use Rattle.pauli.specs.Pauli.{dot};
 ghost use Rattle.pauli.specs.Range.{boundsOf};
 ghost use Rattle.pauli.specs.inner.View.{entries};
@@ -27,16 +28,6 @@ pub fn sum_of_products(a: [Residue; 16], b: [Residue; 16], n: usize) -> u64
         sum += whole_product(a[i], b[i]);
     }
     sum
-}
-
-// The larger of two numbers: it is out of range where one of the two is.
-fn larger(x: u16, y: u16) -> u16
-    ensures { λ r. ⌜ ((d : ℕ) → rangeOf d r ≡ orElse (rangeOf d x) (rangeOf d y)) ⌝ }
-{
-    if x < y {
-        return y;
-    }
-    x
 }
 
 // Whether every v and every w is below d. The largest is looked for, and not the first that isn't below: a loop that never stops early takes several at a time.

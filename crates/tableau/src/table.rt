@@ -165,7 +165,7 @@ fn put_column(c: &mut [u16; 33], row: Ready, d: u16, n: usize)
 {
     let written = row.row;
     let i = written.first as usize - 1;
-    let j = row.other();
+    let j = written.other();
     let old = touched(c, i, j);
     if old.still(d) {
         return;

@@ -1,10 +1,10 @@
 -- `pauli::arrays::bounds` meets its contract. The invariant: the largest so far is out of range where one of those passed is.
-use mathlib.Core.Path.{_≡_, _∙_}
+use mathlib.Core.Path.{_≡_, ap, _∙_}
 use Prim.Native.Nat.{_-_, _≤_}
 use Rattle.arith.specs.Refusals.{orElse, rangeOf}
 use Rattle.pauli.specs.Range.{boundsOf}
 use Rattle.pauli.specs.inner.View.{at, entries}
-use Rattle.pauli.proofs.RangeChecks.{bounds-none, bounds-more}
+use Rattle.pauli.proofs.RangeChecks.{range-larger, bounds-none, bounds-more}
 use native.Mathlib.Omega.{arith}
 use borrow.Author.Needs.{needs}
 use Rattle.pauli.proofs.arrays.bounds.Statement.{statement}
@@ -20,8 +20,8 @@ loop-again : tie.Need-loop-again Inv-loop μ-loop
 loop-again c =
     let d = c .before .before .before .before .before .before .before .before .args .d in
     let l = c .before .before .before .before .before .before .before .loop in
-    let larger = rw (c .before .before .before .value .ensures, c .before .before .value2 .ensures) at (c .before .larger .ensures d) in
-    (omega arith, bounds-more d _ _ (l .i) (l .inv .1) larger (c .larger2 .ensures d))
+    let larger = rw (c .before .before .before .value .ensures, c .before .before .value2 .ensures) at (c .before .larger .ensures) in
+    (omega arith, bounds-more d _ _ (l .i) (l .inv .1) (ap (rangeOf d) larger ∙ range-larger d _ _) (ap (rangeOf d) (c .larger2 .ensures) ∙ range-larger d _ _))
 
 returns : tie.Need-returns Inv-loop μ-loop
 returns c =
