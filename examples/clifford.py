@@ -42,16 +42,18 @@ class Clifford:
         self.pauli_bytes = 2 * (1 + 2 * n)
         self.tableau_bytes = 2 * n * self.pauli_bytes
 
-    def call(self, name, result, inputs, room):
-        """Lends the inputs and an output of `room` bytes; gives (value, output)."""
+    def call(self, name, result, inputs, room=0):
+        """Lends the inputs and an output of `room` bytes, if any; gives (value, output)."""
+        out = ctypes.create_string_buffer(room)
+        lent = [part for data in inputs for part in (data, len(data))]
+        if room > 0:
+            lent += [out, room]
         function = getattr(self.library, "clifford_" + name)
         function.restype = result
         function.argtypes = [ctypes.c_uint16] * 2 + [ctypes.c_char_p, ctypes.c_size_t] * (
-            len(inputs) + 1
+            len(lent) // 2
         )
-        out = ctypes.create_string_buffer(room)
-        lent = [part for data in inputs for part in (data, len(data))]
-        answer = function(self.d, self.n, *lent, out, room)
+        answer = function(self.d, self.n, *lent)
         number, value = (answer, 0) if result is ctypes.c_uint16 else (answer.number, answer.value)
         if number != 0:
             raise ValueError(f"{name} refuses: {number}, {WORDS[number]}")
@@ -69,6 +71,9 @@ class Clifford:
         room = 40 * self.n**2 + 48 * self.n
         count, out = self.call("synthesis", Answer, [pack_all(columns)], room)
         return [unpack(out[8 * i : 8 * i + 8]) for i in range(count)]
+
+    def ticks(self, rows):
+        return self.call("ticks", Answer, [pack_all(rows)])[0]
 
     def run(self, rows, pauli):
         return self.paulis("run", [pack_all(rows), pack(pauli)], self.pauli_bytes)[0]
@@ -105,6 +110,7 @@ def main():
     found = clifford.synthesis(columns)
     print(f"a list with this tableau, {len(found)} rows:")
     print_rows(found)
+    print(f"its ticks, with rows on separate qudits in the same one: {clifford.ticks(found)}")
     pauli = [1, 1, 0, 0, 2]
     print("a Pauli:")
     print_pauli(pauli, n)

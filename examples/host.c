@@ -95,15 +95,20 @@ int main(void)
     printf("a list with this tableau, %u rows:\n", answer.value);
     print_rows(found, answer.value);
 
-    /* The Pauli X on qudit 1 times Z^2 on qudit 2, with phase 1. Only the rows
-       that the count names are lent. */
+    /* Only the rows that the count names are lent. */
+    const size_t found_len = CLIFFORD_ROW_BYTES * answer.value;
+    answer = clifford_ticks(D, N, found, found_len);
+    stop_on_refusal("ticks", answer.number);
+    printf("its ticks, with rows on separate qudits in the same one: %u\n", answer.value);
+
+    /* The Pauli X on qudit 1 times Z^2 on qudit 2, with phase 1. */
     uint8_t pauli[CLIFFORD_PAULI_BYTES(N)] = {0};
     uint8_t result[CLIFFORD_PAULI_BYTES(N)];
     put(pauli, 1);
     put(pauli + 2, 1);
     put(pauli + 8, 2);
-    stop_on_refusal("run", clifford_run(D, N, found, CLIFFORD_ROW_BYTES * answer.value, pauli,
-                                        sizeof pauli, result, sizeof result));
+    stop_on_refusal("run", clifford_run(D, N, found, found_len, pauli, sizeof pauli, result,
+                                        sizeof result));
     printf("a Pauli:\n");
     print_pauli(pauli);
     printf("what the list makes of it:\n");

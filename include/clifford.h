@@ -333,7 +333,14 @@ uint16_t clifford_inverse(uint16_t d, uint16_t n,
  * Ticks of a list.
  * Inputs d, n, list[8 rows]; output function return
  *
- * The value is the number of rows.
+ * Rows on separate qudits run in the same tick. A row uses its first qudit,
+ * and A its second too; it starts in the first tick after the last one used by
+ * any of these. The value is the highest tick used, 0 for the empty list: F on
+ * qudit 1 and F on qudit 2 take 1 tick, F twice on qudit 1 takes 2.
+ *
+ * It is at most the number of rows, and at least the number of rows that any
+ * one qudit takes part in. No schedule in which rows that share a qudit run in
+ * the order of the list, no two of them at once, takes fewer ticks.
  *
  * Refusals: 1 dimension; 2 width; 3 length of list; 6 row.
  */

@@ -6,6 +6,7 @@
 //! the call and both answers; ONLY=i makes the i-th seeded call alone.
 
 mod batch;
+mod overlap;
 mod touched;
 
 use library::{library, reference as reference_call, Layout, Lent, Name, Numbers, NAMES};
@@ -909,6 +910,9 @@ fn main() {
     batch::fault_by_fault(&mut host, seed);
     batch::every_length(&mut host, seed);
     batch::empty_batches(&mut host, seed);
+    overlap::every_short_list(&mut host);
+    overlap::laws_of_ticks(&mut host, seed);
+    overlap::longest_lists(&mut host, seed);
     rows_used(&mut host, seed);
 
     host.seen = [[0; 10]; NAMES.len()];

@@ -128,6 +128,37 @@ static void parity_advice(void)
     free(tableau);
 }
 
+/* F on qudits 1 and 2, A from 2 to 3, F on 3 and on 1: rows on separate qudits
+   share a tick, A waits for both of its qudits and holds both. Then lists of
+   rows on one qudit alone, up to the most and one more. */
+static void overlapping_rows(void)
+{
+    const uint16_t numbers[] = {1, 1, 0, 1, 1, 2, 0, 1, 3, 2, 3, 1, 1, 3, 0, 1, 1, 1, 0, 1};
+    const uint16_t wanted[] = {1, 1, 2, 3, 3};
+    const size_t most = 4096;
+    uint16_t *same = malloc((most + 1) * CLIFFORD_ROW_BYTES);
+
+    for (size_t rows = 1; rows <= 5; rows++) {
+        uint8_t *list = lend(numbers, 4 * rows);
+        expect(answers(clifford_ticks(4, 3, list, rows * CLIFFORD_ROW_BYTES), 0, wanted[rows - 1]),
+               "ticks of rows that overlap");
+        free(list);
+    }
+    if (same == NULL)
+        exit(2);
+    for (size_t k = 0; k < 4 * (most + 1); k++)
+        same[k] = numbers[k % 4];
+    uint8_t *list = lend(same, 4 * (most + 1));
+    expect(answers(clifford_ticks(4, 3, list, 2 * CLIFFORD_ROW_BYTES), 0, 2),
+           "ticks of two rows on one qudit");
+    expect(answers(clifford_ticks(4, 3, list, most * CLIFFORD_ROW_BYTES), 0, most),
+           "ticks of the most rows on one qudit");
+    expect(answers(clifford_ticks(4, 3, list, (most + 1) * CLIFFORD_ROW_BYTES), CLIFFORD_LENGTH, 0),
+           "ticks of one row more");
+    free(list);
+    free(same);
+}
+
 /* The images of these Paulis are as wanted, and nothing after them is written;
    with one byte less room nothing is written at all. */
 static void expect_images(uint16_t d, uint16_t n, const uint8_t *tableau, const uint8_t *paulis,
@@ -369,6 +400,7 @@ int main(void)
     expect(answers(clifford_ticks(4, 2, list, list_len), 0, 3), "ticks");
     expect(answers(clifford_ticks(4, 2, NULL, 0), 0, 0), "ticks of the empty list");
     expect(answers(clifford_ticks(4, 1, list, list_len), CLIFFORD_ROW, 0), "ticks, a refusal");
+    overlapping_rows();
 
     free(list);
     free(tableau);

@@ -123,7 +123,7 @@ pub extern "C" fn clifford_inverse(d: u16, n: u16, tableau: &[u8], out: &mut [u8
     tableau::calls::inverse(d, n, tableau, out)
 }
 
-// The ticks of the list: its number of rows.
+// The ticks of the list, where rows on separate qudits run in the same one: the highest tick used.
 #[no_mangle]
 pub extern "C" fn clifford_ticks(d: u16, n: u16, list: &[u8]) -> Answer
     ensures { λ r. ⌜ Answered (ticksRefusal d n (now (list .entry))) (ticksOf (now (list .entry))) r ⌝ }

@@ -11,7 +11,7 @@ use Rattle.pauli.specs.Pauli.{InRange}
 use Rattle.pauli.specs.Bytes.{pauliBytes, decode}
 use Rattle.pauli.specs.Range.{pauliRangeOf}
 use Rattle.pauli.proofs.Encoding.{decode-range}
-use Rattle.gates.specs.Row.{AllLegal, run}
+use Rattle.gates.specs.Row.{run}
 use Rattle.gates.specs.Written.{listRows, rowsOf, allLegalRows}
 use Rattle.gates.specs.Calls.{runRefusal, ticksRefusal}
 use Rattle.gates.proofs.Written.{all-legal-meant}
@@ -52,8 +52,13 @@ run-answers d n list p room e =
     run-range (omega arith) (all-legal-meant d n (listRows list) (z .legal)) (decode n p) (z .ranged)
 
 -- ticks
-pub ticks-accepted : (d n : ℕ) (list : List ℕ) → ticksRefusal d n list ≡ 0 → (length list ≤ 8 * 4096) × AllLegal d n (rowsOf list)
+pub record Counts (d n : ℕ) (list : List ℕ) : Type 0 where
+  pub given : Given d n
+  pub few : length list ≤ 8 * 4096
+  pub legal : allLegalRows d n (listRows list) ≡ true
+
+pub ticks-accepted : (d n : ℕ) (list : List ℕ) → ticksRefusal d n list ≡ 0 → Counts d n list
 ticks-accepted d n list e =
     let a = orElse-none (givenOf d n) _ e in
     let b = orElse-none (listSizeOf (length list)) _ (a .1) in
-    (list-size-good (b .0) .1, all-legal-meant d n (listRows list) (row-good (allLegalRows d n (listRows list)) (b .1)))
+    record { given = given-good (a .0); few = list-size-good (b .0) .1; legal = row-good (allLegalRows d n (listRows list)) (b .1) }

@@ -1,4 +1,4 @@
--- Document 01's text example, d = 4 and n = 2: the rows F,1,0,1 and A,1,2,1 and Z,2,0,3 in bytes, and what they make of each unit Pauli. By computing.
+-- Examples by computing. Document 01's text example, d = 4 and n = 2: the rows F,1,0,1 and A,1,2,1 and Z,2,0,3 in bytes, and what they make of each unit Pauli.
 use mathlib.Core.Path.{_≡_, refl}
 use mathlib.Core.List.{List, [], _∷_, map}
 use mathlib.Core.Bool.{true, false}
@@ -8,8 +8,9 @@ use Rattle.arith.specs.Residues.{neg}
 use Rattle.arith.specs.Bytes.{tab, numberAt}
 use Rattle.arith.specs.Gcd.{gcd, euclid}
 use Rattle.pauli.specs.Pauli.{Pauli, unit}
-use Rattle.gates.specs.Row.{F, A, Z, run}
+use Rattle.gates.specs.Row.{F, S, A, X, Z, run}
 use Rattle.gates.specs.Written.{WrittenRow, rowsOf, listRows, meant, legalRow, allLegalRows}
+use Rattle.gates.specs.Ticks.{largest, tickOf, afterRow, rowTicks, lastTicks, ticks, unused}
 use Rattle.gates.specs.Calls.{ticksOf}
 
 abbrev bytes : List ℕ
@@ -29,7 +30,7 @@ pub record Example : Type 0 where
   pub ticks : ticksOf bytes ≡ 3
 
 pub example : Example
-unfolding tab numberAt meant legalRow allLegalRows neg gcd euclid
+unfolding tab numberAt meant legalRow allLegalRows neg gcd euclid largest tickOf afterRow rowTicks ticks
 example = record { rows = refl; legal = refl; column-1 = refl; column-2 = refl; column-3 = refl; column-4 = refl; ticks = refl }
 
 -- ---- the edges of what is legal, d = 4 and n = 2: kind, first qudit, second qudit, power
@@ -46,3 +47,23 @@ pub not-legal : map (legalRow 4 2)
     ≡ replicate 14 false
 unfolding legalRow gcd euclid
 not-legal = refl
+
+-- ---- ticks (document 02, P2)
+-- two F rows on qudits 1 and 2 take 1 tick, on the same qudit 2; none takes 0
+pub two-rows : (ticks (F 0 1 ∷ F 1 1 ∷ []) ≡ 1) × ((ticks (F 0 1 ∷ F 0 1 ∷ []) ≡ 2) × (ticks [] ≡ 0))
+unfolding largest tickOf afterRow rowTicks ticks
+two-rows = (refl, (refl, refl))
+
+-- A waits for both of its qudits and holds both, X and Z fill ticks that their qudits have left, and the last row's tick isn't the highest
+pub overlapping : rowTicks unused (F 0 1 ∷ A 0 1 1 ∷ X 2 1 ∷ A 1 2 1 ∷ Z 3 1 ∷ S 0 1 ∷ Z 3 1 ∷ []) ≡ 1 ∷ 2 ∷ 1 ∷ 3 ∷ 1 ∷ 3 ∷ 2 ∷ []
+unfolding largest tickOf afterRow rowTicks
+overlapping = refl
+
+pub last-of-four : tab (lastTicks unused (F 0 1 ∷ A 0 1 1 ∷ X 2 1 ∷ A 1 2 1 ∷ Z 3 1 ∷ S 0 1 ∷ Z 3 1 ∷ [])) 4 ≡ 3 ∷ 3 ∷ 3 ∷ 2 ∷ []
+unfolding tab largest tickOf afterRow lastTicks
+last-of-four = refl
+
+-- A from 1 to 2 and from 3 to 4 run at once; from 1 to 2 and from 2 to 3 don't
+pub two-pairs : (ticks (A 0 1 1 ∷ A 2 3 1 ∷ []) ≡ 1) × (ticks (A 0 1 1 ∷ A 1 2 1 ∷ []) ≡ 2)
+unfolding largest tickOf afterRow rowTicks ticks
+two-pairs = (refl, refl)

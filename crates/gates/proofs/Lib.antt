@@ -2,6 +2,9 @@ pub mod Acts
 pub mod Accepted
 pub mod Examples
 pub mod Kept
+pub mod LastTicks
 pub mod Rows
 pub mod Run
+pub mod Schedules
+pub mod Ticks
 pub mod Written

@@ -6,6 +6,7 @@ use Rattle.arith.specs.Refusals.{orElse, givenOf, sizeOf, listSizeOf, roomOf, r
 use Rattle.pauli.specs.Bytes.{pauliBytes, decode, encode}
 use Rattle.pauli.specs.Range.{pauliRangeOf}
 use Rattle.gates.specs.Row.{run}
+use Rattle.gates.specs.Ticks.{ticks}
 use Rattle.gates.specs.Written.{listRows, rowsOf, allLegalRows}
 
 -- ---- a list run on the Pauli p, with an output of so many bytes: 1, 2, 3 of the list and of p, 4, 5, 6
@@ -29,6 +30,6 @@ ticksRefusal d n list =
     (orElse (listSizeOf (length list))
     (rowOf (allLegalRows d n (listRows list))))
 
--- the number of rows
+-- the highest tick used
 abbrev pub ticksOf : List ℕ → ℕ
-ticksOf list = length (listRows list)
+ticksOf list = ticks (rowsOf list)

@@ -1,8 +1,10 @@
 -- Gate rows and what they do to a Pauli (document 01, "Gate rows"). Qudits count from 0 here.
 use mathlib.Core.Path.{_≡_}
+use mathlib.Core.Bool.{Bool, false, _||_}
 use mathlib.Core.List.{List, [], _∷_}
 use mathlib.Core.Logic.{_≢_}
 use Prim.Native.Nat.{ℕ, _*_, _-_, _≤_, _<_}
+use lib.Dec.{eqb}
 use Rattle.arith.specs.Gcd.{gcd}
 use Rattle.arith.specs.Units.{inverseOf}
 use Rattle.pauli.specs.Pauli.{Pauli}
@@ -33,6 +35,24 @@ Legal d n (A i j k) = TwoQudits n i j × OneQudit n i 1 k (d - 1)
 Legal d n (M i k) = (gcd k d ≡ 1) × OneQudit n i 1 k (d - 1)
 Legal d n (X i k) = OneQudit n i 1 k (d - 1)
 Legal d n (Z i k) = OneQudit n i 1 k (d - 1)
+
+-- the qudits that a row uses: its first, and its second where its kind takes two
+abbrev pub quditsOf : Row → List ℕ
+quditsOf (F i k) = i ∷ []
+quditsOf (S i k) = i ∷ []
+quditsOf (A i j k) = i ∷ j ∷ []
+quditsOf (M i k) = i ∷ []
+quditsOf (X i k) = i ∷ []
+quditsOf (Z i k) = i ∷ []
+
+-- whether q is one of these
+abbrev pub among : ℕ → List ℕ → Bool
+among q [] = false
+among q (i ∷ is) = eqb q i || among q is
+
+-- whether the row uses qudit q
+abbrev pub uses : Row → ℕ → Bool
+uses r q = among q (quditsOf r)
 
 -- what a row does to a Pauli: the effect of its kind
 abbrev pub apply : ℕ → Row → Pauli → Pauli

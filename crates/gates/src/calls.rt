@@ -69,9 +69,8 @@ pub fn ticks(d: u16, n: u16, list: &[u8]) -> Answer
     let Check::Good = found else {
         return arith::calls::refused(found);
     };
-    let rows = list.len() / 8;
     Answer {
         number: 0,
-        value: rows as u16,
+        value: crate::lists::list_ticks(list),
     }
 }

@@ -2,14 +2,16 @@
 use crate::Row;
 use arith::checks::Check;
 use arith::checks::Refusal;
+use arith::numbers::larger;
 use pauli::Pauli;
 ghost use mathlib.Core.Path.{_≡_};
 ghost use mathlib.Core.Bool.{true};
-ghost use Prim.Native.Nat.{_+_, _*_, _/_, _≤_, _<_};
+ghost use Prim.Native.Nat.{ℕ, _+_, _*_, _/_, _≤_, _<_};
 ghost use lib.ListN.{length};
 ghost use Rattle.arith.specs.Refusals.{Dimension, numberOf, rowOf};
 ghost use Rattle.pauli.specs.inner.View.{view, WordTrue};
 ghost use Rattle.gates.specs.Row.{apply, run};
+ghost use Rattle.gates.specs.Ticks.{ticks};
 ghost use Rattle.gates.specs.Written.{meant, rowAt, listRows, rowsOf, allLegalRows};
 ghost use Rattle.gates.specs.inner.View.{viewRow};
 
@@ -64,4 +66,25 @@ pub fn run_list(list: &[u8], p: Pauli, d: u16, n: usize) -> Pauli
         q = run_row(list, r, q, d, n);
     }
     q
+}
+
+// The highest tick used by a list. `last` has the last tick used by each qudit; for a kind on one qudit i and j are that one.
+pub fn list_ticks(list: &[u8]) -> u16
+    requires { ⌜ length (now list) ≤ 8 * 4096 ⌝ }
+    requires { ⌜ ((d : ℕ) × ((n : ℕ) × ((n ≤ 16) × (allLegalRows d n (listRows (now list)) ≡ true)))) ⌝ }
+    ensures { λ t. ⌜ t ≡ ticks (rowsOf (now (list .entry))) ⌝ }
+{
+    let rows = list.len() / 8;
+    let mut last: [u16; 16] = [0; 16];
+    let mut highest: u16 = 0;
+    for r in 0..rows {
+        let next = read_row(list, r);
+        let i = next.first as usize - 1;
+        let j = next.other();
+        let tick = larger(last[i], last[j]) + 1;
+        last[i] = tick;
+        last[j] = tick;
+        highest = larger(highest, tick);
+    }
+    highest
 }

@@ -394,6 +394,6 @@ pub fn ticks(d: u16, n: u16, list: &[u8]) -> Answer {
         let n = width(n)?;
         list_length(list)?;
         let rows = legal_rows(list, d, n)?;
-        Ok(rows.len() as i64)
+        Ok(crate::ticks(&rows, n))
     })())
 }

@@ -225,6 +225,16 @@ impl Row {
         p.w[i] = p.w[i].rem_euclid(d);
     }
 
+    /// The qudits that a legal row uses: its first, and its second where its kind
+    /// takes two.
+    pub fn qudits(&self) -> impl Iterator<Item = usize> + Clone {
+        let second = match self.kind {
+            A => Some(self.second as usize),
+            _ => None,
+        };
+        std::iter::once(self.first as usize).chain(second)
+    }
+
     /// Whether a legal row carries every Pauli to itself.
     pub fn is_idle(&self, d: i64) -> bool {
         let power = self.power as i64;
@@ -259,6 +269,20 @@ pub fn run(rows: &[Row], p: &Pauli, d: i64) -> Pauli {
         row.apply(&mut p, d);
     }
     p
+}
+
+/// The ticks of a list of legal rows: each row starts in the first tick after the
+/// last one used by any of its qudits. The highest tick used, 0 for the empty
+/// list.
+pub fn ticks(rows: &[Row], n: usize) -> i64 {
+    let mut last_used = vec![0; n + 1];
+    let mut highest = 0;
+    for row in rows {
+        let last = row.qudits().map(|q| last_used[q]).max().unwrap();
+        row.qudits().for_each(|q| last_used[q] = last + 1);
+        highest = highest.max(last + 1);
+    }
+    highest
 }
 
 // ------------------------------------------------------------------ tableaus

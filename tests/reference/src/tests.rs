@@ -384,6 +384,69 @@ fn images_refusals() {
     }
 }
 
+/// One of the shortest rows on a qudit, or on two.
+fn row_on(first: u16, second: u16) -> Row {
+    row(if second == 0 { F } else { A }, first, second, 1)
+}
+
+#[test]
+fn ticks_by_hand() {
+    for (qudits, wanted) in [
+        (&[][..], 0),
+        (&[(1, 0)], 1),
+        (&[(1, 0), (2, 0)], 1),
+        (&[(1, 0), (1, 0)], 2),
+        (&[(1, 2), (3, 4)], 1),
+        (&[(1, 2), (2, 3)], 2),
+        (&[(1, 2), (3, 2), (1, 4)], 2),
+        (&[(1, 0), (1, 0), (2, 0)], 2),
+        (&[(1, 0), (1, 2), (2, 0)], 3),
+        (&[(1, 2), (2, 3), (3, 4), (1, 0)], 3),
+    ] {
+        let rows: Vec<Row> = qudits.iter().map(|&(i, j)| row_on(i, j)).collect();
+        assert_eq!(ticks(&rows, 4), wanted, "{rows:?}");
+    }
+}
+
+/// The fewest ticks of any schedule, by search: a row runs in any tick that is
+/// later than those of the rows before it that share a qudit with it.
+fn fewest_ticks(rows: &[Row], starts: &mut Vec<i64>) -> i64 {
+    let place = starts.len();
+    if place == rows.len() {
+        return starts.iter().copied().max().unwrap_or(0);
+    }
+    let shares = |a: usize| {
+        rows[a]
+            .qudits()
+            .any(|q| rows[place].qudits().any(|r| r == q))
+    };
+    let after = (0..place).filter(|&a| shares(a)).map(|a| starts[a]).max();
+    (after.unwrap_or(0) + 1..=rows.len() as i64)
+        .map(|tick| {
+            starts.push(tick);
+            let fewest = fewest_ticks(rows, starts);
+            starts.pop();
+            fewest
+        })
+        .min()
+        .unwrap_or(i64::MAX)
+}
+
+#[test]
+fn ticks_are_the_fewest() {
+    for index in 0..400 {
+        let random = &mut Random::new(7, index);
+        let n = random.between(1, 4);
+        let count = random.between(0, 5);
+        let rows = random.rows(count, 3, n);
+        assert_eq!(
+            ticks(&rows, n),
+            fewest_ticks(&rows, &mut vec![]),
+            "{rows:?}"
+        );
+    }
+}
+
 #[test]
 fn limits_of_d_and_n() {
     for d in [0, 1, 2, 1024, 1025, u16::MAX] {

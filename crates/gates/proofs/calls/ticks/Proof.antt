@@ -1,12 +1,14 @@
--- `gates::calls::ticks` meets its contract: an accepted list has at most 4,096 rows, so their number fits.
-use Rattle.gates.proofs.Accepted.{ticks-accepted}
-use mathlib.Core.Path.{refl, sym}
-use Rattle.arith.proofs.Bytes.{tab-length}
+-- `gates::calls::ticks` meets its contract: refused by the check, else the highest tick of the list.
+use mathlib.Core.Path.{refl}
 use Rattle.arith.proofs.Refusals.{good, stop-last, stop-answered, answered}
-use native.Mathlib.Omega.{arith}
+use Rattle.gates.proofs.Accepted.{Counts, ticks-accepted}
 use borrow.Author.Needs.{needs}
 use Rattle.gates.proofs.calls.ticks.Statement.{statement}
 use Rattle.gates.proofs.calls.ticks.Tie as tie
+
+-- past the check
+accepted : (c : tie.After-enum-told) → let a = c .before .before .before .before .args in Counts (a .d) (a .n) (a .list .now)
+accepted c = ticks-accepted _ _ _ (good _ (c .before .before .ticks-check .ensures) (c .enum-told .given .1))
 
 pub ticks-spec : {M : Type 1} → statement M
 ticks-spec = tie.close (tie.spec
@@ -15,5 +17,5 @@ ticks-spec = tie.close (tie.spec
     (λ c. search needs)  -- enum-told-2
     (λ c κs. search needs)  -- refused-requires
     (λ c. stop-answered _ (stop-last _ (c .before .before .before .ticks-check .ensures) (c .before .enum-told2 .given .1)) (c .refused .ensures))  -- returns
-    (λ c. let a = c .before .before .before .before .args in omega (arith, ticks-accepted (a .d) (a .n) (a .list .now) (good _ (c .before .before .ticks-check .ensures) (c .enum-told .given .1))))  -- cast-t7
-    (λ c. answered (good _ (c .before .before .ticks-check .ensures) (c .enum-told .given .1)) refl (sym (tab-length _ _))))  -- returns-2
+    (λ c κs. let a = c .before .before .before .before .args in let z = accepted c in (z .few, (a .d, (a .n, (z .given .width .n-high, z .legal)))))  -- list-ticks-requires
+    (λ c. answered (good _ (c .before .before .before .ticks-check .ensures) (c .before .enum-told .given .1)) refl (c .list-ticks .ensures)))  -- returns-2
