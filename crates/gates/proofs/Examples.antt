@@ -9,7 +9,7 @@ use Rattle.arith.specs.Bytes.{tab, numberAt}
 use Rattle.arith.specs.Gcd.{gcd, euclid}
 use Rattle.pauli.specs.Pauli.{Pauli, unit}
 use Rattle.gates.specs.Row.{F, S, A, X, Z, run}
-use Rattle.gates.specs.Written.{WrittenRow, rowsOf, listRows, meant, legalRow, allLegalRows}
+use Rattle.gates.specs.Written.{WrittenRow, rowsOf, listRows, meant, legalRow, allRows, allLegalRows}
 use Rattle.gates.specs.Ticks.{largest, tickOf, afterRow, rowTicks, lastTicks, ticks, unused}
 use Rattle.gates.specs.Calls.{ticksOf}
 
@@ -30,7 +30,7 @@ pub record Example : Type 0 where
   pub ticks : ticksOf bytes ≡ 3
 
 pub example : Example
-unfolding tab numberAt meant legalRow allLegalRows neg gcd euclid largest tickOf afterRow rowTicks ticks
+unfolding tab numberAt meant legalRow allRows neg gcd euclid largest tickOf afterRow rowTicks ticks
 example = record { rows = refl; legal = refl; column-1 = refl; column-2 = refl; column-3 = refl; column-4 = refl; ticks = refl }
 
 -- ---- the edges of what is legal, d = 4 and n = 2: kind, first qudit, second qudit, power
@@ -38,7 +38,7 @@ abbrev row : ℕ → ℕ → ℕ → ℕ → WrittenRow
 row kind i j k = record { kind = kind; first = i; second = j; power = k }
 
 pub highest-powers : allLegalRows 4 2 (row 1 1 0 3 ∷ row 2 2 0 7 ∷ row 3 1 2 3 ∷ row 4 1 0 3 ∷ row 5 1 0 3 ∷ row 6 2 0 3 ∷ []) ≡ true
-unfolding legalRow allLegalRows gcd euclid
+unfolding legalRow allRows gcd euclid
 highest-powers = refl
 
 -- a power past those, a power of 0, no unit, no such kind, no such first qudit, a second one where there is none, none where there must be, the first again, past n

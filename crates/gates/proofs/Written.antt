@@ -15,7 +15,7 @@ use Rattle.arith.specs.Bytes.{tab, numberAt}
 use Rattle.arith.proofs.Bytes.{tab-more, tab-ext, tab-list, number-bytes, bytes-length}
 use Rattle.arith.proofs.Refusals.{both-held}
 use Rattle.gates.specs.Row.{Row, F, S, A, M, X, Z, OneQudit, TwoQudits, Legal, AllLegal, none, more, undo}
-use Rattle.gates.specs.Written.{WrittenRow, withPower, onOne, onTwo, written, rowOfKind, meant, between, highest, legalPower, takesTwo, legalSecond, legalRow, allLegalRows, rowAt, listRows, rowsOf, rowNumbers, listNumbers, encodeRows}
+use Rattle.gates.specs.Written.{WrittenRow, withPower, onOne, onTwo, written, rowOfKind, meant, between, highest, legalPower, takesTwo, legalSecond, legalRow, allRows, allLegalRows, rowAt, listRows, rowsOf, rowNumbers, listNumbers, encodeRows}
 
 -- ---- two tests in a row: the second decides, or the first fails
 pub second-decides : {a b r : Bool} → a ≡ true → r ≡ b → r ≡ (a && b)
@@ -257,41 +257,43 @@ legal-exactly d n w = (
 -- ---- lists of rows
 module _ (d n : ℕ) where
   pub all-legal-meant : (ws : List WrittenRow) → allLegalRows d n ws ≡ true → AllLegal d n (map meant ws)
-  unfolding allLegalRows
+  unfolding allRows
   all-legal-meant [] e = none
   all-legal-meant (w ∷ ws) e = let b = both-held (legalRow d n w) (allLegalRows d n ws) e in more (legal-meant d n w (b .0)) (all-legal-meant ws (b .1))
 
   pub all-legal-written : {rs : List Row} → AllLegal d n rs → allLegalRows d n (map written rs) ≡ true
-  unfolding allLegalRows
+  unfolding allRows
   all-legal-written none = refl
   all-legal-written (more {r = r} l ls) = both (legal-written d n r l) (all-legal-written ls)
 
-  all-legal-append : (ws vs : List WrittenRow) → allLegalRows d n (ws ++ vs) ≡ (allLegalRows d n ws && allLegalRows d n vs)
-  unfolding allLegalRows
-  all-legal-append [] vs = refl
-  all-legal-append (w ∷ ws) vs = ap (λ (b : Bool). legalRow d n w && b) (all-legal-append ws vs) ∙ sym (and-assoc (legalRow d n w) (allLegalRows d n ws) (allLegalRows d n vs))
+-- ---- a test of every row of a list
+module _ (test : WrittenRow → Bool) where
+  all-append : (ws vs : List WrittenRow) → allRows test (ws ++ vs) ≡ (allRows test ws && allRows test vs)
+  unfolding allRows
+  all-append [] vs = refl
+  all-append (w ∷ ws) vs = ap (λ (b : Bool). test w && b) (all-append ws vs) ∙ sym (and-assoc (test w) (allRows test ws) (allRows test vs))
 
-  -- a loop over a table of rows: none seen, one more seen, one that stops it, and one of them when all are legal
+  -- a loop over a table of rows: none seen, one more seen, one that stops it, and one of them when all pass
   module _ (f : ℕ → WrittenRow) where
-    pub all-legal-none : allLegalRows d n (tab f 0) ≡ true
-    unfolding allLegalRows tab
-    all-legal-none = refl
+    pub all-none : allRows test (tab f 0) ≡ true
+    unfolding allRows tab
+    all-none = refl
 
-    pub all-legal-more : (i : ℕ) → allLegalRows d n (tab f i) ≡ true → legalRow d n (f i) ≡ true → allLegalRows d n (tab f (i + 1)) ≡ true
-    unfolding allLegalRows
-    all-legal-more i e l = ap (allLegalRows d n) (tab-more f i) ∙ all-legal-append (tab f i) (f i ∷ []) ∙ both e (both l refl)
+    pub all-more : (i : ℕ) → allRows test (tab f i) ≡ true → test (f i) ≡ true → allRows test (tab f (i + 1)) ≡ true
+    unfolding allRows
+    all-more i e l = ap (allRows test) (tab-more f i) ∙ all-append (tab f i) (f i ∷ []) ∙ both e (both l refl)
 
-  pub all-legal-at : (f : ℕ → WrittenRow) (m i : ℕ) → i < m → allLegalRows d n (tab f m) ≡ true → legalRow d n (f i) ≡ true
-  unfolding allLegalRows tab
-  all-legal-at f zero i h e = absurd (not-suc-le-zero h)
-  all-legal-at f (suc m) zero h e = both-held (legalRow d n (f 0)) (allLegalRows d n (tab (λ r. f (suc r)) m)) e .0
-  all-legal-at f (suc m) (suc i) h e = all-legal-at (λ r. f (suc r)) m i (le-of-suc-le-suc h) (both-held (legalRow d n (f 0)) (allLegalRows d n (tab (λ r. f (suc r)) m)) e .1)
+  pub all-at : (f : ℕ → WrittenRow) (m i : ℕ) → i < m → allRows test (tab f m) ≡ true → test (f i) ≡ true
+  unfolding allRows tab
+  all-at f zero i h e = absurd (not-suc-le-zero h)
+  all-at f (suc m) zero h e = both-held (test (f 0)) (allRows test (tab (λ r. f (suc r)) m)) e .0
+  all-at f (suc m) (suc i) h e = all-at (λ r. f (suc r)) m i (le-of-suc-le-suc h) (both-held (test (f 0)) (allRows test (tab (λ r. f (suc r)) m)) e .1)
 
-  pub all-legal-stop : (f : ℕ → WrittenRow) (m i : ℕ) → i < m → legalRow d n (f i) ≡ false → allLegalRows d n (tab f m) ≡ false
-  all-legal-stop f m i h e = decided (allLegalRows d n (tab f m)) refl
+  pub all-stop : (f : ℕ → WrittenRow) (m i : ℕ) → i < m → test (f i) ≡ false → allRows test (tab f m) ≡ false
+  all-stop f m i h e = decided (allRows test (tab f m)) refl
     where
-      decided : (b : Bool) → allLegalRows d n (tab f m) ≡ b → b ≡ false
-      decided true g = sym (all-legal-at f m i h g) ∙ e
+      decided : (b : Bool) → allRows test (tab f m) ≡ b → b ≡ false
+      decided true g = sym (all-at f m i h g) ∙ e
       decided false g = refl
 
 -- ---- encoding

@@ -72,9 +72,13 @@ legalSecond n kind i j = cond (takesTwo kind) (between 1 n j && not (eqb j i)) (
 unfoldable pub legalRow : ℕ → ℕ → WrittenRow → Bool
 legalRow d n w = legalPower d (w .kind) (w .power) && (between 1 n (w .first) && legalSecond n (w .kind) (w .first) (w .second))
 
-unfoldable pub allLegalRows : ℕ → ℕ → List WrittenRow → Bool
-allLegalRows d n [] = true
-allLegalRows d n (w ∷ ws) = legalRow d n w && allLegalRows d n ws
+-- whether every row passes a test, and whether every row is legal
+unfoldable pub allRows : (WrittenRow → Bool) → List WrittenRow → Bool
+allRows test [] = true
+allRows test (w ∷ ws) = test w && allRows test ws
+
+abbrev pub allLegalRows : ℕ → ℕ → List WrittenRow → Bool
+allLegalRows d n ws = allRows (legalRow d n) ws
 
 -- ---- rows in bytes, 8 bytes a row
 -- row r, counted from 0

@@ -8,7 +8,7 @@ use Rattle.arith.specs.Gcd.{gcd}
 use Rattle.arith.specs.Refusals.{dimensionOf, widthOf, givenOf, wholeOf, listSizeOf, roomOf, rowOf, pairingOf, parityOf}
 use Rattle.pauli.specs.Pauli.{Pauli}
 use Rattle.gates.specs.Row.{Row, F, S, A, Z}
-use Rattle.gates.specs.Written.{meant, legalRow, allLegalRows}
+use Rattle.gates.specs.Written.{meant, legalRow, allRows}
 use Rattle.tableau.specs.Tableau.{tableauOf}
 use Rattle.tableau.specs.Soundness.{soundnessOf}
 use Rattle.tableau.specs.Bytes.{encodeTableau}
@@ -61,5 +61,5 @@ abbrev wholeList : List ℕ
 wholeList = bytesOf (1 ∷ 1 ∷ 0 ∷ 1 ∷ 3 ∷ 1 ∷ 2 ∷ 1 ∷ 6 ∷ 2 ∷ 0 ∷ 3 ∷ [])
 
 whole-bytes : (tableauRefusal 4 2 wholeList 40 ≡ 0) × (tableauRefusal 4 2 wholeList 39 ≡ 4) × (tableauAnswer 4 2 wholeList ≡ encodeTableau wholeColumns)
-unfolding neg gcd tab numberAt bytesOf encodeTableau dimensionOf widthOf givenOf wholeOf listSizeOf roomOf rowOf meant legalRow allLegalRows
+unfolding neg gcd tab numberAt bytesOf encodeTableau dimensionOf widthOf givenOf wholeOf listSizeOf roomOf rowOf meant legalRow allRows
 whole-bytes = (refl, refl, refl)

@@ -21,7 +21,7 @@ use Rattle.arith.proofs.Passes.{size-passes, room-passes}
 use Rattle.pauli.specs.Pauli.{Pauli}
 use Rattle.pauli.specs.Bytes.{decodeAt}
 use Rattle.gates.specs.Row.{Row, F, S, A, M, X, Z, Legal}
-use Rattle.gates.specs.Written.{WrittenRow, written, meant, legalRow, allLegalRows, rowAt, listRows}
+use Rattle.gates.specs.Written.{WrittenRow, written, meant, legalRow, allRows, allLegalRows, rowAt, listRows}
 use Rattle.gates.proofs.Written.{written-meant, legal-meant}
 use Rattle.tableau.specs.Bytes.{tableauBytes, columnAt, decodeTableau}
 use Rattle.tableau.specs.Range.{tableauRangeOf}
@@ -117,7 +117,7 @@ legal-fits d n w r hd hn e l = rw e (fits r l)
     fits (Z i k) l = omega (arith, l)
 
 rows-fit : (d n : ℕ) (rows : List WrittenRow) → d ≤ 1024 → n ≤ 16 → allLegalRows d n rows ≡ true → Every RowFits rows
-unfolding allLegalRows Every
+unfolding allRows Every
 rows-fit d n [] hd hn e = search needs
 rows-fit d n (w ∷ ws) hd hn e =
     let b = both-held (legalRow d n w) (allLegalRows d n ws) e in

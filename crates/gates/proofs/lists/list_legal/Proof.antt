@@ -7,7 +7,7 @@ use borrow.Author.Tests.{not-true, not-false}
 use Rattle.arith.specs.Bytes.{tab}
 use Rattle.arith.specs.Refusals.{rowOf}
 use Rattle.gates.specs.Written.{WrittenRow, legalRow, allLegalRows, rowAt}
-use Rattle.gates.proofs.Written.{all-legal-none, all-legal-more, all-legal-stop}
+use Rattle.gates.proofs.Written.{all-none, all-more, all-stop}
 use native.Mathlib.Omega.{arith}
 use borrow.Author.Needs.{needs}
 use Rattle.gates.proofs.lists.list_legal.Statement.{statement}
@@ -26,11 +26,11 @@ abbrev μ-loop : tie.MeasureT-loop
 pub list-legal-spec : {M : Type 1} → statement M
 unfolding rowOf
 list-legal-spec = tie.close (tie.spec Inv-loop μ-loop
-    (λ c. (omega arith, all-legal-none _ _ _))  -- loop-holds
+    (λ c. (omega arith, all-none _ _))  -- loop-holds
     (λ c κs. search needs)  -- read-row-requires
     (λ c κs. search needs)  -- legal-requires
-    (λ c. let a = c .before .before .before .before .before .before .args in rw (all-legal-stop (a .d) (a .n) (rowAt (a .list .now)) (length (a .list .now) / 8) (c .before .before .before .before .loop .r) (omega arith) (seen (a .d) (a .n) (c .before .before .read-row .ensures) (c .before .legal .ensures) ∙ not-true _ (c .if1 .taken))))  -- returns
+    (λ c. let a = c .before .before .before .before .before .before .args in rw (all-stop (legalRow (a .d) (a .n)) (rowAt (a .list .now)) (length (a .list .now) / 8) (c .before .before .before .before .loop .r) (omega arith) (seen (a .d) (a .n) (c .before .before .read-row .ensures) (c .before .legal .ensures) ∙ not-true _ (c .if1 .taken))))  -- returns
     (λ c. search needs)  -- add-r
     (λ c. search needs)  -- loop-less
-    (λ c. let a = c .before .before .before .before .before .before .args in (omega arith, all-legal-more (a .d) (a .n) (rowAt (a .list .now)) (c .before .before .before .before .loop .r) (c .before .before .before .before .loop .inv .1) (seen (a .d) (a .n) (c .before .before .read-row .ensures) (c .before .legal .ensures) ∙ not-false _ (c .if1 .left))))  -- loop-again
+    (λ c. let a = c .before .before .before .before .before .before .args in (omega arith, all-more (legalRow (a .d) (a .n)) (rowAt (a .list .now)) (c .before .before .before .before .loop .r) (c .before .before .before .before .loop .inv .1) (seen (a .d) (a .n) (c .before .before .read-row .ensures) (c .before .legal .ensures) ∙ not-false _ (c .if1 .left))))  -- loop-again
     (λ c. let a = c .before .before .before .args in let e : c .before .loop .r ≡ length (a .list .now) / 8 = omega arith in rw (ap (λ (m : ℕ). allLegalRows (a .d) (a .n) (tab (rowAt (a .list .now)) m)) (sym e) ∙ c .before .loop .inv .1)))  -- returns-2

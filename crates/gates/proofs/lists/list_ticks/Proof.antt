@@ -8,7 +8,7 @@ use Rattle.arith.specs.Bytes.{tab}
 use Rattle.gates.specs.Ticks.{ticks}
 use Rattle.gates.specs.Written.{WrittenRow, legalRow, takesTwo, rowAt, meant}
 use Rattle.gates.specs.inner.View.{viewRow, otherOf}
-use Rattle.gates.proofs.Written.{all-legal-at, legal-first, legal-second}
+use Rattle.gates.proofs.Written.{all-at, legal-first, legal-second}
 use Rattle.gates.proofs.Acts.{legal-other}
 use Rattle.gates.proofs.LastTicks.{Running, running-start, running-low, running-next}
 use native.Mathlib.Omega.{arith}
@@ -35,7 +35,7 @@ places c =
     let d = s .pre .1 .0 in
     let n = s .pre .1 .1 .0 in
     let w = viewRow (c .read-row .result) in
-    let judged = ap (legalRow d n) (c .read-row .ensures) ∙ all-legal-at d n (rowAt (s .args .list .now)) (length (s .args .list .now) / 8) (c .before .before .loop .r) (omega arith) (s .pre .1 .1 .1 .1) in
+    let judged = ap (legalRow d n) (c .read-row .ensures) ∙ all-at (legalRow d n) (rowAt (s .args .list .now)) (length (s .args .list .now) / 8) (c .before .before .loop .r) (omega arith) (s .pre .1 .1 .1 .1) in
     let few = s .pre .1 .1 .1 .0 in
     let f = legal-first d n w judged in
     record {

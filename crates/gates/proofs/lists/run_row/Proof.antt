@@ -3,7 +3,7 @@ use mathlib.Core.Bool.{true}
 use Prim.Native.Nat.{_/_}
 use lib.ListN.{length}
 use Rattle.gates.specs.Written.{rowAt}
-use Rattle.gates.proofs.Written.{all-legal-at}
+use Rattle.gates.proofs.Written.{all-at}
 use mathlib.Core.Path.{_≡_, _∙_, ap}
 use Rattle.pauli.specs.inner.View.{view}
 use Rattle.gates.specs.Row.{apply}
@@ -19,7 +19,7 @@ use Rattle.gates.proofs.lists.run_row.Tie as tie
 judged : (c : tie.After-read-row) → legalRow (c .before .before .args .d) (c .before .before .args .n) (viewRow (c .read-row .result)) ≡ true
 judged c =
     let a = c .before .before .args in
-    ap (legalRow (a .d) (a .n)) (c .read-row .ensures) ∙ all-legal-at (a .d) (a .n) (rowAt (a .list .now)) (length (a .list .now) / 8) (a .r) (c .before .before .pre .0 .1 .1) (c .before .before .pre .1)
+    ap (legalRow (a .d) (a .n)) (c .read-row .ensures) ∙ all-at (legalRow (a .d) (a .n)) (rowAt (a .list .now)) (length (a .list .now) / 8) (a .r) (c .before .before .pre .0 .1 .1) (c .before .before .pre .1)
 
 pub run-row-spec : {M : Type 1} → statement M
 run-row-spec = tie.close (tie.spec

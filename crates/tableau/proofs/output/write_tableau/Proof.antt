@@ -7,7 +7,7 @@ use Rattle.arith.specs.Bytes.{tab, front}
 use Rattle.pauli.specs.Pauli.{Pauli}
 use Rattle.gates.specs.Row.{apply, run}
 use Rattle.gates.specs.Written.{WrittenRow, meant, rowAt, legalRow}
-use Rattle.gates.proofs.Written.{all-legal-at}
+use Rattle.gates.proofs.Written.{all-at}
 use Rattle.tableau.specs.Tableau.{units}
 use Rattle.tableau.specs.Bytes.{encodeTableau}
 use Rattle.tableau.specs.inner.View.{tableView, Shaped}
@@ -34,7 +34,7 @@ put-columns-requires c κs =
     let s = c .before .before .before .before .before .before .before in
     let a = s .args in
     let l = c .before .before .before .loop in
-    (s .pre .0, (ap (legalRow (a .d) (a .n)) (c .before .read-row .ensures) ∙ all-legal-at (a .d) (a .n) (rowAt (a .list .now)) (length (a .list .now) / 8) (l .r) (omega arith) (s .pre .1 .0), l .inv .1 .1))
+    (s .pre .0, (ap (legalRow (a .d) (a .n)) (c .before .read-row .ensures) ∙ all-at (legalRow (a .d) (a .n)) (rowAt (a .list .now)) (length (a .list .now) / 8) (l .r) (omega arith) (s .pre .1 .0), l .inv .1 .1))
 
 loop-again : tie.Need-loop-again Inv-loop μ-loop
 loop-again c =
