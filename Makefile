@@ -7,7 +7,7 @@
 # make clean       removes what was built
 
 PREFIX ?= /usr/local
-VERSION = 1.5.0
+VERSION = 1.6.0
 
 .PHONY: all test gate hosts lib program install clean
 
@@ -23,7 +23,7 @@ test: gate
 gate:
 	@sh tests/gate
 
-hosts: reference compare ctest stack pyexample texttest
+hosts: reference compare ctest stack pyexample texttest partner
 
 lib: build/libclifford.a
 

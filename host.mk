@@ -1,7 +1,7 @@
 # What stands around the library and is not part of it: the reference, the
-# hosts that compare the library with it, the text program's cases, and the
-# benchmark. Paths are relative to the root of the repository; everything made
-# goes under build/.
+# hosts that compare the library with it, the text program's cases, the gates of
+# document 002 as matrices, and the benchmark. Paths are relative to the root of
+# the repository; everything made goes under build/.
 #
 #   make reference   build the reference and run its own tests
 #   make compare     the library against the reference; CALLS= and SEED=
@@ -9,7 +9,8 @@
 #   make stack       how much stack each call uses, against the header's figure
 #   make pyexample   the example over ctypes, against what the C example prints
 #   make texttest    the text program; TEXT_PROGRAM=, RUNS= and SEED=
-#   make bench       the benchmark table; BENCH_MS=
+#   make partner     G files and L files against matrices; TEXT_PROGRAM=
+#   make bench       the benchmark table; BENCH_MS= and BENCH_KINDS=
 
 CARGO ?= cargo
 PYTHON ?= python3
@@ -24,7 +25,7 @@ HOST_CARGO = $(CARGO) build --quiet --release --offline --target-dir build/cargo
 HOST_RUST = CLIFFORD_LIB_DIR=$(CURDIR)/build $(HOST_CARGO) --manifest-path tests/host/Cargo.toml
 REFERENCE = --manifest-path tests/reference/Cargo.toml
 
-.PHONY: reference textref compare ctest stack pyexample texttest bench
+.PHONY: reference textref compare ctest stack pyexample texttest partner bench
 
 reference: textref
 	$(CARGO) test --quiet --offline --target-dir build/cargo $(REFERENCE) --lib
@@ -65,3 +66,6 @@ pyexample: build/libclifford.so build/example
 
 texttest: textref
 	tests/text/run $(TEXT_PROGRAM)
+
+partner:
+	$(PYTHON) tests/partner/matrices.py $(TEXT_PROGRAM)

@@ -6,6 +6,11 @@
 //! least multiplier where its search is longest, how long the lists of the
 //! library's synthesis are, and what time it takes on 16 qudits. The lists are
 //! counted without a clock, so those figures are the same in every run.
+//!
+//! Calls that take a list have lines with rows of the first six kinds, as before
+//! there were C and W, and lines with rows of all eight; BENCH_KINDS=6 leaves the
+//! latter out, for a library that has no C and W. Random tableaus are those of
+//! rows of the first six.
 
 use library::{library, reference as reference_call, Layout, Lent, Name, Numbers, NAMES};
 use reference::random::Random;
@@ -16,6 +21,9 @@ use std::hint::black_box;
 const INPUTS: usize = 16;
 /// Fewer where each is a batch, which takes long.
 const BATCHES: usize = 2;
+/// More where each is a list: figures by 16 lists differ from those by lists that
+/// don't come back so soon, most likely since the processor learns the kinds.
+const LISTS: usize = 512;
 const LIST_ROWS: usize = 64;
 const MOST_QUDITS: u16 = 16;
 const WIDTHS: [u16; 3] = [1, 4, MOST_QUDITS];
@@ -35,15 +43,18 @@ impl Input {
     }
 }
 
-fn input(name: Name, d: u16, n: u16, random: &mut Random) -> Input {
+type Rows = fn(&mut Random, usize, i64, usize) -> Vec<Row>;
+
+/// A drawn input; `rows` draws its list, if it has one.
+fn input_with(rows: Rows, name: Name, d: u16, n: u16, random: &mut Random) -> Input {
     let (dim, wide) = (d as i64, n as usize);
     let mut lent = name.inputs().iter().map(|layout| match layout {
         Layout::Pauli => calls::bytes_of_pauli(&random.pauli(dim, wide)),
-        Layout::Tableau => calls::bytes_of_tableau(&random.dense_tableau(dim, wide)),
+        Layout::Tableau => calls::bytes_of_tableau(&random.dense_tableau_of_six(dim, wide)),
         Layout::Batch => (0..calls::MOST_PAULIS)
             .flat_map(|_| calls::bytes_of_pauli(&random.pauli(dim, wide)))
             .collect(),
-        Layout::List => random.list_bytes(LIST_ROWS, dim, wide),
+        Layout::List => calls::bytes_of_rows(&rows(random, LIST_ROWS, dim, wide)),
     });
     let first = lent.next().unwrap_or_default();
     let second = lent.next().unwrap_or_default();
@@ -57,6 +68,16 @@ fn input(name: Name, d: u16, n: u16, random: &mut Random) -> Input {
         first,
         second,
     }
+}
+
+/// Lists have rows of the first six kinds.
+fn input(name: Name, d: u16, n: u16, random: &mut Random) -> Input {
+    input_with(Random::rows_of_six, name, d, n, random)
+}
+
+/// Lists have rows of all eight kinds.
+fn input_of_eight(name: Name, d: u16, n: u16, random: &mut Random) -> Input {
+    input_with(Random::rows, name, d, n, random)
 }
 
 /// Two Paulis that touch no qudit in common: one touches some, the other all the
@@ -224,6 +245,7 @@ fn print_line(what: &str, name: Name, d: u16, n: u16, draw: Draw, time: f64) {
     let mut random = Random::new(1, (d as u64) << 16 | n as u64);
     let count = match name {
         Name::Images => BATCHES,
+        _ if name.inputs().contains(&Layout::List) => LISTS,
         _ => INPUTS,
     };
     let inputs: Vec<Input> = (0..count).map(|_| draw(name, d, n, &mut random)).collect();
@@ -257,9 +279,11 @@ fn print_line(what: &str, name: Name, d: u16, n: u16, draw: Draw, time: f64) {
 
 fn print_calls(milliseconds: u32) {
     println!(
-        "Lists have {LIST_ROWS} rows, batches {} Paulis, tableaus few zeros. Disjoint Paulis touch \
-         no qudit in common. Outputs are not cleared between calls. Both sides are built for \
-         release; best of {ROUNDS} rounds of at least {milliseconds} ms of processor time.\n",
+        "Lists have {LIST_ROWS} rows, of the six kinds F, S, A, M, X and Z, or of all eight, with \
+         C and W; for n = 1 there is no A, C or W. Batches have {} Paulis, tableaus few zeros. \
+         Disjoint Paulis touch no qudit in common. Outputs are not cleared between calls. Both \
+         sides are built for release; best of {ROUNDS} rounds of at least {milliseconds} ms of \
+         processor time.\n",
         calls::MOST_PAULIS
     );
     println!(
@@ -269,12 +293,25 @@ fn print_calls(milliseconds: u32) {
     println!("|---|---|---|---|---|---|---|---|---|");
     let time = milliseconds as f64 / 1000.0;
     for name in NAMES {
+        let takes_list = name.inputs().contains(&Layout::List);
+        let what = match takes_list {
+            true => format!("{}, six kinds", name.text()),
+            false => name.text().into(),
+        };
         for n in WIDTHS {
             if name == Name::LeastMultiplier && n > 1 {
                 continue; // it takes no n
             }
             for d in DIMENSIONS {
-                print_line(name.text(), name, d, n, input, time);
+                print_line(&what, name, d, n, input, time);
+            }
+        }
+        if takes_list && setting("BENCH_KINDS", 8) == 8 {
+            let what = format!("{}, eight kinds", name.text());
+            for (n, d) in WIDTHS.iter().flat_map(|&n| DIMENSIONS.map(|d| (n, d))) {
+                if n > 1 {
+                    print_line(&what, name, d, n, input_of_eight, time);
+                }
             }
         }
         if name == Name::Commutation {
@@ -488,8 +525,8 @@ fn print_lists_of_sparse_operations() {
     println!("\n## Lists of sparse operations\n");
     println!(
         "The lists of the library for operations on {n} qudits: the identity, {SINGLE_ROWS} single \
-         rows of each kind, and {SHORT_LISTS} lists of {SHORT_LIST_ROWS} rows, all random and \
-         legal.\n"
+         rows of each kind, and {SHORT_LISTS} lists of {SHORT_LIST_ROWS} rows of the six kinds F, \
+         S, A, M, X and Z, and of all eight; all random and legal.\n"
     );
     println!("| operation | d | {LIST_COLUMNS}");
     let line = |what: &str, d: u16, lists: &[Vec<Row>]| {
@@ -501,10 +538,15 @@ fn print_lists_of_sparse_operations() {
     for d in SPARSE_DIMENSIONS {
         line("identity", d, &[vec![]]);
     }
-    for (kind, letter) in (reference::F..=reference::Z).zip(["F", "S", "A", "M", "X", "Z"]) {
+    let letters = ["F", "S", "A", "M", "X", "Z", "C", "W"];
+    for (kind, letter) in (reference::F..=reference::W).zip(letters) {
         for d in SPARSE_DIMENSIONS {
             let mut random = Random::new(3, (d as u64) << 16 | kind as u64);
-            let mut any_row = || random.row(d as i64, n as usize);
+            let (dim, wide) = (d as i64, n as usize);
+            let mut any_row = || match kind > reference::Z {
+                true => random.row(dim, wide),
+                false => random.row_of_six(dim, wide),
+            };
             let lists: Vec<Vec<Row>> = std::iter::repeat_with(|| vec![any_row()])
                 .filter(|rows| rows[0].kind == kind)
                 .take(SINGLE_ROWS)
@@ -512,12 +554,16 @@ fn print_lists_of_sparse_operations() {
             line(&format!("one {letter} row"), d, &lists);
         }
     }
-    for d in SPARSE_DIMENSIONS {
-        let mut random = Random::new(4, d as u64);
-        let lists: Vec<Vec<Row>> = (0..SHORT_LISTS)
-            .map(|_| random.rows(SHORT_LIST_ROWS, d as i64, n as usize))
-            .collect();
-        line(&format!("{SHORT_LIST_ROWS} random rows"), d, &lists);
+    let kinds: [(&str, Rows); 2] = [("six", Random::rows_of_six), ("eight", Random::rows)];
+    for (of, rows) in kinds {
+        for d in SPARSE_DIMENSIONS {
+            let mut random = Random::new(4, d as u64);
+            let lists: Vec<Vec<Row>> = (0..SHORT_LISTS)
+                .map(|_| rows(&mut random, SHORT_LIST_ROWS, d as i64, n as usize))
+                .collect();
+            let what = format!("{SHORT_LIST_ROWS} random rows, {of} kinds");
+            line(&what, d, &lists);
+        }
     }
 }
 
@@ -544,10 +590,16 @@ fn print_time_of_synthesis(time: f64) {
 
 // ----------------------------------------------------------------------- main
 
+/// A number of the environment, or what it is where it isn't set.
+fn setting(name: &str, otherwise: u32) -> u32 {
+    std::env::var(name).map_or(otherwise, |text| {
+        text.parse()
+            .unwrap_or_else(|_| panic!("{name} is no number: {text}"))
+    })
+}
+
 fn main() {
-    let milliseconds = std::env::var("BENCH_MS")
-        .ok()
-        .map_or(2, |text| text.parse().expect("BENCH_MS is no number"));
+    let milliseconds = setting("BENCH_MS", 2);
     let time = milliseconds as f64 / 1000.0;
     print_calls(milliseconds);
     print_batches(time);

@@ -12,7 +12,7 @@ import struct
 import sys
 
 WORDS = ["", "dimension", "width", "length", "room", "range", "row", "pairing", "parity"]
-LETTERS = "?FSAMXZ"
+LETTERS = "?FSAMXZCW"
 
 
 class Answer(ctypes.Structure):

@@ -40,7 +40,7 @@ static void put_row(uint8_t *row, unsigned kind, unsigned first, unsigned second
 static void print_rows(const uint8_t *list, size_t rows)
 {
     for (size_t i = 0; i < rows; i++, list += CLIFFORD_ROW_BYTES)
-        printf("  %c,%u,%u,%u\n", "?FSAMXZ"[get(list)], get(list + 2), get(list + 4),
+        printf("  %c,%u,%u,%u\n", "?FSAMXZCW"[get(list)], get(list + 2), get(list + 4),
                get(list + 6));
 }
 

@@ -24,10 +24,10 @@
  *   Row      kind, first, second, power           8 bytes
  *   List     0 to 4,096 rows; the first acts first
  *
- * A row is legal when its first qudit is 1 to n, its second is 0, or for kind
- * A another qudit from 1 to n, and its power k is as follows. Phases are
- * modulo 2d, entries modulo d, and k' is the inverse of k. Numbers not named
- * don't change.
+ * A row is legal when its first qudit is 1 to n, its second is 0, or for the
+ * kinds A, C and W another qudit from 1 to n, and its power k is as follows.
+ * Phases are modulo 2d, entries modulo d, and k' is the inverse of k. Numbers
+ * not named don't change.
  *
  *   kind   legal power         effect on first qudit i, second qudit j
  *   1 F    1 to 3              k times: phase - 2 vi wi, then vi, wi become
@@ -37,6 +37,8 @@
  *   4 M    1 to d - 1, a unit  vi becomes k vi, wi becomes k' wi
  *   5 X    1 to d - 1          phase - 2 k wi
  *   6 Z    1 to d - 1          phase + 2 k vi
+ *   7 C    1 to d - 1          phase + 2 k vi vj, wi + k vj, wj + k vi
+ *   8 W    1                   vi and vj, and wi and wj, are exchanged
  *
  * A tableau is sound when for columns j < k the commutation number is d - 1
  * if k = j + n, else 0, and for each column with phase h the sum
@@ -248,9 +250,10 @@ uint16_t clifford_tableau(uint16_t d, uint16_t n,
  * Which list it is, is free: it may change from one version of the library to
  * the next, and with it what this paragraph says. In this version the identity
  * gives the empty list, and no list has a row that does nothing. There are at
- * most 9n(n + 1)/2 rows, for a prime d n(5n + 9)/2, and at most 3 of kind A
- * between any two qudits. One row comes back as one row (at an even d some S
- * as S and Z), ten random rows on 16 qudits as about ten.
+ * most 9n(n + 1)/2 rows, for a prime d n(5n + 9)/2, and at most 3 on any two
+ * qudits; none is of kind C or W. One row of another kind comes back as one row
+ * (at an even d some S as S and Z), C as three rows, W as three or four, and
+ * ten random rows on 16 qudits as nine to seventeen on average.
  *
  * Refusals: 1 dimension; 2 width; 3 length of tableau; 4 room: out_len is
  * below 40n^2 + 48n, however short the list would be; 5 range: a number of

@@ -6,6 +6,7 @@
 //! the call and both answers; ONLY=i makes the i-th seeded call alone.
 
 mod batch;
+mod kinds;
 mod overlap;
 mod touched;
 
@@ -451,13 +452,15 @@ fn damage_row(list: &mut Vec<u8>, d: u16, n: u16, random: &mut Random) {
     let any = random.below(rows.len());
     let last = rows.len() - 1;
     let row = &mut rows[random.pick(&[0, last, any])];
-    match random.below(8) {
-        0 => row.kind = random.pick(&[0, 7, 8, 256 + row.kind, u16::MAX]),
+    let of_two = [reference::A, reference::C, reference::W];
+    match random.below(10) {
+        0 => row.kind = random.pick(&[0, 9, 10, 256 + row.kind, u16::MAX]),
         1 => row.power = 0,
         2 | 3 => {
             let limit = match row.kind {
                 reference::F => 4,
                 reference::S => 2 * d,
+                reference::W => 2,
                 _ => d,
             };
             row.power = too_large(limit, random);
@@ -474,14 +477,24 @@ fn damage_row(list: &mut Vec<u8>, d: u16, n: u16, random: &mut Random) {
         }
         5 => row.first = random.pick(&[0, n + 1, 256 + row.first, u16::MAX]),
         6 => {
-            row.second = match row.kind {
-                reference::A => random.pick(&[0, n + 1, row.first, u16::MAX]),
-                _ => random.pick(&[1, n, row.first, 256, u16::MAX]),
+            row.second = match reference::takes_two(row.kind) {
+                true => random.pick(&[0, n + 1, row.first, u16::MAX]),
+                false => random.pick(&[1, n, row.first, 256, u16::MAX]),
+            }
+        }
+        // Another kind, with the qudits and the power of this one.
+        7 => row.kind = random.between(1, reference::W as usize) as u16,
+        8 => {
+            *row = Row {
+                kind: reference::W,
+                second: row.first % n + 1,
+                power: random.pick(&[2, d - 1, d]),
+                ..*row
             }
         }
         _ => {
             *row = Row {
-                kind: reference::A,
+                kind: random.pick(&of_two),
                 second: row.first,
                 power: 1,
                 ..*row
@@ -788,7 +801,7 @@ fn every_tableau_of_two_qubits(host: &mut Host) {
     let (d, n) = (2_u16, 2_u16);
     let (dim, wide) = (d as i64, n as usize);
     let mut legal = Vec::new();
-    for kind in reference::F..=reference::Z {
+    for kind in reference::F..=reference::W {
         for code in 0..n * (n + 1) * 2 * d {
             let row = Row {
                 kind,
@@ -913,6 +926,11 @@ fn main() {
     overlap::every_short_list(&mut host);
     overlap::laws_of_ticks(&mut host, seed);
     overlap::longest_lists(&mut host, seed);
+    kinds::every_edge(&mut host, seed);
+    kinds::every_legal_row(&mut host, seed);
+    kinds::rows_by_other_rows(&mut host, seed);
+    kinds::laws_of_lists(&mut host, seed);
+    kinds::units_between(&mut host);
     rows_used(&mut host, seed);
 
     host.seen = [[0; 10]; NAMES.len()];

@@ -128,21 +128,25 @@ static void parity_advice(void)
     free(tableau);
 }
 
-/* F on qudits 1 and 2, A from 2 to 3, F on 3 and on 1: rows on separate qudits
-   share a tick, A waits for both of its qudits and holds both. Then lists of
-   rows on one qudit alone, up to the most and one more. */
+/* F on qudits 1 and 2, A from 2 to 3, or C or W, F on 3 and on 1: rows on
+   separate qudits share a tick, A waits for both of its qudits and holds both.
+   Then lists of rows on one qudit alone, up to the most and one more. */
 static void overlapping_rows(void)
 {
-    const uint16_t numbers[] = {1, 1, 0, 1, 1, 2, 0, 1, 3, 2, 3, 1, 1, 3, 0, 1, 1, 1, 0, 1};
-    const uint16_t wanted[] = {1, 1, 2, 3, 3};
+    uint16_t numbers[] = {1, 1, 0, 1, 1, 2, 0, 1, 3, 2, 3, 1, 1, 3, 0, 1, 1, 1, 0, 1};
+    const uint16_t wanted[] = {1, 1, 2, 3, 3}, of_two[] = {3, 7, 8};
     const size_t most = 4096;
     uint16_t *same = malloc((most + 1) * CLIFFORD_ROW_BYTES);
 
-    for (size_t rows = 1; rows <= 5; rows++) {
-        uint8_t *list = lend(numbers, 4 * rows);
-        expect(answers(clifford_ticks(4, 3, list, rows * CLIFFORD_ROW_BYTES), 0, wanted[rows - 1]),
-               "ticks of rows that overlap");
-        free(list);
+    for (size_t k = 0; k < 3; k++) {
+        numbers[8] = of_two[k];
+        for (size_t rows = 1; rows <= 5; rows++) {
+            uint8_t *list = lend(numbers, 4 * rows);
+            expect(answers(clifford_ticks(4, 3, list, rows * CLIFFORD_ROW_BYTES), 0,
+                           wanted[rows - 1]),
+                   "ticks of rows that overlap");
+            free(list);
+        }
     }
     if (same == NULL)
         exit(2);
@@ -157,6 +161,76 @@ static void overlapping_rows(void)
            "ticks of one row more");
     free(list);
     free(same);
+}
+
+/* C,1,2,3 then W,1,2,1 for d = 4, n = 2. On (7; 1,3; 3,0): C makes w1 = 3 + 3*3,
+   w2 = 0 + 3*1 and the phase 7 + 2*3*1*3, W exchanges 1,3 and 0,3. */
+static void rows_on_two_qudits(void)
+{
+    const uint16_t list_numbers[] = {7, 1, 2, 3, 8, 1, 2, 1};
+    const uint16_t pauli_numbers[] = {7, 1, 3, 3, 0}, image_numbers[] = {1, 3, 1, 3, 0};
+    const uint16_t tableau_numbers[] = {0, 0, 1, 3, 0, 0, 1, 0, 0, 3,
+                                        0, 0, 0, 0, 1, 0, 0, 0, 1, 0};
+    /* C with no power, with power d, without a second qudit, with the first as
+       its second, with the third of two, as its first too, from no qudit; the
+       same of W, whose power is 1; and kinds that there are not. */
+    static const uint16_t illegal[][4] = {
+        {7, 1, 2, 0}, {7, 1, 2, 4}, {7, 1, 2, 65535}, {7, 1, 0, 1}, {7, 1, 1, 1}, {7, 1, 3, 1},
+        {7, 3, 1, 1}, {7, 0, 1, 1}, {8, 1, 2, 0}, {8, 1, 2, 2}, {8, 1, 2, 3}, {8, 1, 2, 4},
+        {8, 1, 2, 257}, {8, 1, 0, 1}, {8, 2, 2, 1}, {8, 1, 3, 1}, {8, 3, 1, 1}, {8, 0, 1, 1},
+        {0, 1, 2, 1}, {9, 1, 2, 1}, {9, 1, 0, 1}, {10, 1, 2, 1}, {263, 1, 2, 1}, {264, 1, 2, 1},
+        {65535, 1, 2, 1},
+    };
+    const size_t pauli_len = CLIFFORD_PAULI_BYTES(2), tableau_len = CLIFFORD_TABLEAU_BYTES(2);
+    const size_t list_len = 2 * CLIFFORD_ROW_BYTES, row_len = CLIFFORD_ROW_BYTES;
+    uint8_t *list = lend(list_numbers, 8), *p = lend(pauli_numbers, 5);
+    uint8_t *image = lend(image_numbers, 5), *tableau = lend(tableau_numbers, 20);
+    uint8_t *out = output(pauli_len + 3);
+
+    expect(clifford_run(4, 2, list, list_len, p, pauli_len, out, pauli_len + 3) == 0, "C and W, run");
+    expect_output(image, pauli_len, pauli_len + 3, "C and W, output of run");
+    out = output(tableau_len + 3);
+    expect(clifford_tableau(4, 2, list, list_len, out, tableau_len + 3) == 0, "C and W, tableau");
+    expect_output(tableau, tableau_len, tableau_len + 3, "C and W, output of tableau");
+    expect(answers(clifford_ticks(4, 2, list, list_len), 0, 2), "C and W, ticks");
+    out = output(CLIFFORD_SYNTHESIS_BYTES(2));
+    struct clifford_answer found =
+        clifford_synthesis(4, 2, tableau, tableau_len, out, CLIFFORD_SYNTHESIS_BYTES(2));
+    expect(found.number == 0 && found.value <= 5 * 4 + 6 * 2, "C and W, synthesis");
+    if (found.number == 0 && found.value <= 5 * 4 + 6 * 2) {
+        uint8_t again[CLIFFORD_TABLEAU_BYTES(2)];
+        expect(clifford_tableau(4, 2, out, row_len * found.value, again, sizeof again) == 0
+                   && memcmp(again, tableau, sizeof again) == 0,
+               "C and W, the tableau of the list of synthesis");
+    }
+
+    for (size_t k = 0; k < sizeof illegal / sizeof *illegal; k++) {
+        /* The row alone, and behind the list. */
+        for (size_t before = 0; before <= 2; before += 2) {
+            uint16_t numbers[12];
+            size_t len = (before + 1) * row_len;
+            memcpy(numbers, list_numbers, before * row_len);
+            memcpy(numbers + 4 * before, illegal[k], row_len);
+            uint8_t *bad = lend(numbers, 4 * (before + 1));
+            out = output(pauli_len);
+            expect(clifford_run(4, 2, bad, len, p, pauli_len, out, pauli_len) == CLIFFORD_ROW,
+                   "no legal row, run");
+            expect_output(NULL, 0, pauli_len, "no legal row, output of run");
+            out = output(tableau_len);
+            expect(clifford_tableau(4, 2, bad, len, out, tableau_len) == CLIFFORD_ROW,
+                   "no legal row, tableau");
+            expect_output(NULL, 0, tableau_len, "no legal row, output of tableau");
+            expect(answers(clifford_ticks(4, 2, bad, len), CLIFFORD_ROW, 0), "no legal row, ticks");
+            free(bad);
+        }
+    }
+    /* One qudit has no C and no W. */
+    expect(answers(clifford_ticks(4, 1, list, row_len), CLIFFORD_ROW, 0), "C for n = 1");
+    expect(answers(clifford_ticks(4, 1, list + row_len, row_len), CLIFFORD_ROW, 0), "W for n = 1");
+    free(list);
+    free(p);
+    free(image);
+    free(tableau);
 }
 
 /* The images of these Paulis are as wanted, and nothing after them is written;
@@ -268,6 +342,7 @@ int main(void)
     old_bytes(tableau);
     parity_advice();
     full_batch();
+    rows_on_two_qudits();
 
     expect(answers(clifford_least_multiplier(6, 2, 1), 0, 5), "least multiplier, -1");
     expect(answers(clifford_least_multiplier(840, 6, 1), 0, 5),

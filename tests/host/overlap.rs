@@ -4,24 +4,24 @@ use super::{dimension, Case, Host};
 use library::Name;
 use reference::calls;
 use reference::random::Random;
-use reference::{Row, A, F};
+use reference::{Row, A, C, F, W};
 
 fn ticks_of(rows: &[Row], d: u16, n: u16) -> Case {
     Case::new(Name::Ticks, d, n, calls::bytes_of_rows(rows), vec![])
 }
 
-/// F on each qudit, and A from each qudit to each other one.
+/// F on each qudit, and A, C and W from each qudit to each other one.
 fn simple_rows(n: u16) -> Vec<Row> {
     let mut rows = vec![];
     for first in 1..=n {
         for second in (0..=n).filter(|&second| second != first) {
-            let kind = if second == 0 { F } else { A };
-            rows.push(Row {
+            let kinds = if second == 0 { &[F][..] } else { &[A, C, W] };
+            rows.extend(kinds.iter().map(|&kind| Row {
                 kind,
                 first,
                 second,
                 power: 1,
-            });
+            }));
         }
     }
     rows
@@ -40,7 +40,7 @@ pub fn every_short_list(host: &mut Host) {
             }
         }
     }
-    println!("ticks: all lists of F and A rows, for n and the most rows in {SHORT:?}");
+    println!("ticks: all lists of F, A, C and W rows, for n and the most rows in {SHORT:?}");
 }
 
 /// Stops unless the list has so many ticks.

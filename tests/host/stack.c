@@ -110,15 +110,17 @@ static void put(uint8_t *bytes, size_t k, unsigned x)
     bytes[2 * k + 1] = (uint8_t)(x >> 8);
 }
 
-/* Rows of every kind on every qudit; M has the power d - 1, which is a unit. */
+/* Rows of every kind on every qudit; M has the power d - 1, which is a unit. Of
+   two qudits are A, C and W, kinds 3, 7 and 8. */
 static void draw_list(void)
 {
     for (size_t r = 0; r < ROWS; r++) {
-        unsigned kind = 1 + below(6), i = below(QUDITS), power = dimension - 1;
+        unsigned kind = 1 + below(8), i = below(QUDITS), most = dimension - 1;
+        unsigned j = (i + 1 + below(QUDITS - 1)) % QUDITS, power = 1 + below(most);
         put(list, 4 * r, kind);
         put(list, 4 * r + 1, i + 1);
-        put(list, 4 * r + 2, kind == 3 ? (i + 1 + below(QUDITS - 1)) % QUDITS + 1 : 0);
-        put(list, 4 * r + 3, kind == 1 ? 1 + below(3) : kind == 4 ? power : 1 + below(power));
+        put(list, 4 * r + 2, kind == 3 || kind > 6 ? j + 1 : 0);
+        put(list, 4 * r + 3, kind == 1 ? 1 + below(3) : kind == 4 ? most : kind == 8 ? 1 : power);
     }
 }
 

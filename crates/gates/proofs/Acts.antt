@@ -6,11 +6,11 @@ use Prim.Native.Nat.{ℕ, _-_, _<_}
 use native.Mathlib.Omega.{arith}
 use Rattle.pauli.specs.Pauli.{Pauli}
 use Rattle.pauli.specs.inner.Touched.{Touched, touched, still, OnOne, OnTwo}
-use Rattle.pauli.proofs.Still.{Rests, still-rests, f-still, s-still, a-still, m-still, x-still, z-still}
+use Rattle.pauli.proofs.Still.{Rests, still-rests, f-still, s-still, a-still, m-still, x-still, z-still, c-still, w-still}
 use Rattle.gates.specs.Row.{apply}
 use Rattle.gates.specs.Written.{WrittenRow, rowOfKind, meant, takesTwo, legalRow}
 use Rattle.gates.specs.inner.View.{otherOf, Acts, ActsAt}
-use Rattle.gates.proofs.Written.{Kind, kind-f, kind-s, kind-a, kind-m, kind-x, kind-z, legal-sort, legal-first, legal-second}
+use Rattle.gates.proofs.Written.{Kind, kind-f, kind-s, kind-a, kind-m, kind-x, kind-z, kind-c, kind-w, legal-sort, legal-first, legal-second}
 
 -- the row of that kind is the row that is meant
 pub of-kind : (d : ℕ) (w : WrittenRow) (kind : ℕ) (p : Pauli) → w .kind ≡ kind → apply d (rowOfKind kind (w .first - 1) (w .second - 1) (w .power)) p ≡ apply d (meant w) p
@@ -48,10 +48,15 @@ acts-not d n w p legal e = by-kind (legal-sort d n w legal) refl
     first : Rests d i p
     first = still-rests d i (otherOf w) p e .0
 
+    second : (kind : ℕ) → takesTwo kind ≡ true → w .kind ≡ kind → Rests d (w .second - 1) p
+    second kind two q = subst (λ (j : ℕ). Rests d j p) (sym (other-is w kind q two)) (still-rests d i (otherOf w) p e .1)
+
     by-kind : {kind : ℕ} → Kind kind → w .kind ≡ kind → apply d (meant w) p ≡ p
     by-kind kind-f q = sym (of-kind d w 1 p q) ∙ f-still d i p first (w .power)
     by-kind kind-s q = sym (of-kind d w 2 p q) ∙ s-still d i p first (w .power)
-    by-kind kind-a q = sym (of-kind d w 3 p q) ∙ a-still d i (w .second - 1) p first (subst (λ (j : ℕ). Rests d j p) (sym (other-is w 3 q refl)) (still-rests d i (otherOf w) p e .1)) (w .power)
+    by-kind kind-a q = sym (of-kind d w 3 p q) ∙ a-still d i (w .second - 1) p first (second 3 refl q) (w .power)
     by-kind kind-m q = sym (of-kind d w 4 p q) ∙ m-still d i p first (w .power)
     by-kind kind-x q = sym (of-kind d w 5 p q) ∙ x-still d i p first (w .power)
     by-kind kind-z q = sym (of-kind d w 6 p q) ∙ z-still d i p first (w .power)
+    by-kind kind-c q = sym (of-kind d w 7 p q) ∙ c-still d i (w .second - 1) p first (second 7 refl q) (w .power)
+    by-kind kind-w q = sym (of-kind d w 8 p q) ∙ w-still d i (w .second - 1) p first (second 8 refl q)

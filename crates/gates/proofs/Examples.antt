@@ -8,7 +8,7 @@ use Rattle.arith.specs.Residues.{neg}
 use Rattle.arith.specs.Bytes.{tab, numberAt}
 use Rattle.arith.specs.Gcd.{gcd, euclid}
 use Rattle.pauli.specs.Pauli.{Pauli, unit}
-use Rattle.gates.specs.Row.{F, S, A, X, Z, run}
+use Rattle.gates.specs.Row.{F, S, A, X, Z, C, W, run}
 use Rattle.gates.specs.Written.{WrittenRow, rowsOf, listRows, meant, legalRow, allRows, allLegalRows}
 use Rattle.gates.specs.Ticks.{largest, tickOf, afterRow, rowTicks, lastTicks, ticks, unused}
 use Rattle.gates.specs.Calls.{ticksOf}
@@ -37,14 +37,16 @@ example = record { rows = refl; legal = refl; column-1 = refl; column-2 = refl; 
 abbrev row : ℕ → ℕ → ℕ → ℕ → WrittenRow
 row kind i j k = record { kind = kind; first = i; second = j; power = k }
 
-pub highest-powers : allLegalRows 4 2 (row 1 1 0 3 ∷ row 2 2 0 7 ∷ row 3 1 2 3 ∷ row 4 1 0 3 ∷ row 5 1 0 3 ∷ row 6 2 0 3 ∷ []) ≡ true
+pub highest-powers : allLegalRows 4 2 (row 1 1 0 3 ∷ row 2 2 0 7 ∷ row 3 1 2 3 ∷ row 4 1 0 3 ∷ row 5 1 0 3 ∷ row 6 2 0 3 ∷ row 7 2 1 3 ∷ row 8 1 2 1 ∷ []) ≡ true
 unfolding legalRow allRows gcd euclid
 highest-powers = refl
 
--- a power past those, a power of 0, no unit, no such kind, no such first qudit, a second one where there is none, none where there must be, the first again, past n
+-- a power past those, a power of 0, no unit, no such kind, no such first qudit, a second one where there is none, none where there must be, the first again, past n;
+-- and of C and W: a power past the highest, no second qudit, the first again
 pub not-legal : map (legalRow 4 2)
-    (row 1 1 0 4 ∷ row 2 1 0 8 ∷ row 3 1 2 4 ∷ row 5 1 0 4 ∷ row 1 1 0 0 ∷ row 4 1 0 2 ∷ row 0 1 0 1 ∷ row 7 1 0 1 ∷ row 1 0 0 1 ∷ row 1 3 0 1 ∷ row 1 1 2 1 ∷ row 3 1 0 1 ∷ row 3 1 1 1 ∷ row 3 1 3 1 ∷ [])
-    ≡ replicate 14 false
+    (row 1 1 0 4 ∷ row 2 1 0 8 ∷ row 3 1 2 4 ∷ row 5 1 0 4 ∷ row 1 1 0 0 ∷ row 4 1 0 2 ∷ row 0 1 0 1 ∷ row 9 1 0 1 ∷ row 1 0 0 1 ∷ row 1 3 0 1 ∷ row 1 1 2 1 ∷ row 3 1 0 1 ∷ row 3 1 1 1 ∷ row 3 1 3 1
+    ∷ row 7 1 2 4 ∷ row 7 1 0 1 ∷ row 7 1 1 1 ∷ row 8 1 2 2 ∷ row 8 1 2 0 ∷ row 8 1 0 1 ∷ row 8 2 2 1 ∷ [])
+    ≡ replicate 21 false
 unfolding legalRow gcd euclid
 not-legal = refl
 
@@ -62,6 +64,11 @@ overlapping = refl
 pub last-of-four : tab (lastTicks unused (F 0 1 ∷ A 0 1 1 ∷ X 2 1 ∷ A 1 2 1 ∷ Z 3 1 ∷ S 0 1 ∷ Z 3 1 ∷ [])) 4 ≡ 3 ∷ 3 ∷ 3 ∷ 2 ∷ []
 unfolding tab largest tickOf afterRow lastTicks
 last-of-four = refl
+
+-- C and W hold both of their qudits
+pub of-c-and-w : rowTicks unused (C 0 1 1 ∷ F 1 1 ∷ F 0 1 ∷ W 1 2 ∷ Z 2 1 ∷ []) ≡ 1 ∷ 2 ∷ 2 ∷ 3 ∷ 4 ∷ []
+unfolding largest tickOf afterRow rowTicks
+of-c-and-w = refl
 
 -- A from 1 to 2 and from 3 to 4 run at once; from 1 to 2 and from 2 to 3 don't
 pub two-pairs : (ticks (A 0 1 1 ∷ A 2 3 1 ∷ []) ≡ 1) × (ticks (A 0 1 1 ∷ A 1 2 1 ∷ []) ≡ 2)

@@ -16,6 +16,7 @@ use Rattle.gates.specs.Written.{WrittenRow, rowOfKind, meant, takesTwo}
 use Rattle.gates.specs.Ticks.{largest, tickOf, afterRow, lastTicks, rowTicks, unused, ticks}
 use Rattle.gates.specs.inner.View.{otherOf}
 use Rattle.gates.proofs.Run.{rows-more}
+use Rattle.gates.proofs.Written.{takes-one}
 use Rattle.gates.proofs.Ticks.{last-append, highest-append, last-within, ticks-most}
 
 -- ---- the qudits of a written row: the first, and the second where its kind takes two
@@ -27,7 +28,9 @@ qudits-of-kind (suc (suc (suc zero))) i j k = refl
 qudits-of-kind (suc (suc (suc (suc zero)))) i j k = refl
 qudits-of-kind (suc (suc (suc (suc (suc zero))))) i j k = refl
 qudits-of-kind (suc (suc (suc (suc (suc (suc zero)))))) i j k = refl
-qudits-of-kind (suc (suc (suc (suc (suc (suc (suc kind))))))) i j k = rw (ne-eqb (suc (suc (suc (suc (suc (suc (suc kind))))))) 3 (λ e. omega arith))
+qudits-of-kind (suc (suc (suc (suc (suc (suc (suc zero))))))) i j k = refl
+qudits-of-kind (suc (suc (suc (suc (suc (suc (suc (suc zero)))))))) i j k = refl
+qudits-of-kind (suc (suc (suc (suc (suc (suc (suc (suc (suc kind))))))))) i j k = rw (takes-one (suc (suc (suc (suc (suc (suc (suc (suc (suc kind))))))))) (λ e. omega arith) (λ e. omega arith) (λ e. omega arith))
 
 pub qudits-meant : (w : WrittenRow) → quditsOf (meant w) ≡ cond (takesTwo (w .kind)) ((w .first - 1) ∷ (w .second - 1) ∷ []) ((w .first - 1) ∷ [])
 unfolding meant

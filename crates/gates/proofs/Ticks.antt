@@ -9,7 +9,7 @@ use lib.ListN.{length}
 use borrow.Author.Tests.{eq-eqb, ne-eqb}
 use Rattle.arith.specs.Bytes.{tab}
 use Rattle.arith.proofs.Cases.{by-eq}
-use Rattle.gates.specs.Row.{Row, F, S, A, M, X, Z, Legal, AllLegal, none, more, quditsOf, among, uses}
+use Rattle.gates.specs.Row.{Row, F, S, A, M, X, Z, C, W, Legal, AllLegal, none, more, quditsOf, among, uses}
 use Rattle.gates.specs.Ticks.{largest, tickOf, afterRow, lastTicks, rowTicks, unused, ticks}
 use Rattle.gates.specs.Schedules.{rowsOn, Every, Apart, Separate}
 
@@ -188,6 +188,8 @@ first-used d n (A i j k) l = (i, (l .0 .from-qudit, rw (eq-eqb i i refl)))
 first-used d n (M i k) l = (i, (l .1 .qudit, rw (eq-eqb i i refl)))
 first-used d n (X i k) l = (i, (l .qudit, rw (eq-eqb i i refl)))
 first-used d n (Z i k) l = (i, (l .qudit, rw (eq-eqb i i refl)))
+first-used d n (C i j k) l = (i, (l .0 .from-qudit, rw (eq-eqb i i refl)))
+first-used d n (W i j) l = (i, (l .from-qudit, rw (eq-eqb i i refl)))
 
 seen-last : {d n : ℕ} {rs : List Row} (last : ℕ → ℕ) → AllLegal d n rs → largest (rowTicks last rs) ≤ largest (tab (lastTicks last rs) n)
 unfolding rowTicks lastTicks largest

@@ -14,7 +14,7 @@ use Rattle.arith.specs.Units.{IsUnit, inverseOf}
 use Rattle.arith.specs.Bytes.{tab, numberAt}
 use Rattle.arith.proofs.Bytes.{tab-more, tab-ext, tab-list, number-bytes, bytes-length}
 use Rattle.arith.proofs.Refusals.{both-held}
-use Rattle.gates.specs.Row.{Row, F, S, A, M, X, Z, OneQudit, TwoQudits, Legal, AllLegal, none, more, undo}
+use Rattle.gates.specs.Row.{Row, F, S, A, M, X, Z, C, W, OneQudit, TwoQudits, Legal, AllLegal, none, more, undo}
 use Rattle.gates.specs.Written.{WrittenRow, withPower, onOne, onTwo, written, rowOfKind, meant, between, highest, legalPower, takesTwo, legalSecond, legalRow, allRows, allLegalRows, rowAt, listRows, rowsOf, rowNumbers, listNumbers, encodeRows}
 
 -- ---- two tests in a row: the second decides, or the first fails
@@ -32,6 +32,8 @@ pub data Kind : ℕ → Type 0 where
   kind-m : Kind 4
   kind-x : Kind 5
   kind-z : Kind 6
+  kind-c : Kind 7
+  kind-w : Kind 8
 
 known : (d kind : ℕ) → 1 ≤ highest d kind → Kind kind
 known d zero h = absurd (not-suc-le-zero h)
@@ -41,21 +43,29 @@ known d (suc (suc (suc zero))) h = kind-a
 known d (suc (suc (suc (suc zero)))) h = kind-m
 known d (suc (suc (suc (suc (suc zero))))) h = kind-x
 known d (suc (suc (suc (suc (suc (suc zero)))))) h = kind-z
-known d (suc (suc (suc (suc (suc (suc (suc kind))))))) h = absurd (not-suc-le-zero h)
+known d (suc (suc (suc (suc (suc (suc (suc zero))))))) h = kind-c
+known d (suc (suc (suc (suc (suc (suc (suc (suc zero)))))))) h = kind-w
+known d (suc (suc (suc (suc (suc (suc (suc (suc (suc kind))))))))) h = absurd (not-suc-le-zero h)
 
 -- any other number is no kind: what the last arm of a match on all of them tells
 abbrev pub NoKind : ℕ → Type 0
-NoKind kind = (((((Unit {0} × (kind ≢ 1)) × (kind ≢ 2)) × (kind ≢ 3)) × (kind ≢ 4)) × (kind ≢ 5)) × (kind ≢ 6)
+NoKind kind = (((((((Unit {0} × (kind ≢ 1)) × (kind ≢ 2)) × (kind ≢ 3)) × (kind ≢ 4)) × (kind ≢ 5)) × (kind ≢ 6)) × (kind ≢ 7)) × (kind ≢ 8)
 
 pub no-kind : (d kind : ℕ) → NoKind kind → highest d kind ≡ 0
 no-kind d zero z = refl
-no-kind d (suc zero) z = absurd (z .0 .0 .0 .0 .0 .1 refl)
-no-kind d (suc (suc zero)) z = absurd (z .0 .0 .0 .0 .1 refl)
-no-kind d (suc (suc (suc zero))) z = absurd (z .0 .0 .0 .1 refl)
-no-kind d (suc (suc (suc (suc zero)))) z = absurd (z .0 .0 .1 refl)
-no-kind d (suc (suc (suc (suc (suc zero))))) z = absurd (z .0 .1 refl)
-no-kind d (suc (suc (suc (suc (suc (suc zero)))))) z = absurd (z .1 refl)
-no-kind d (suc (suc (suc (suc (suc (suc (suc kind))))))) z = refl
+no-kind d (suc zero) z = absurd (z .0 .0 .0 .0 .0 .0 .0 .1 refl)
+no-kind d (suc (suc zero)) z = absurd (z .0 .0 .0 .0 .0 .0 .1 refl)
+no-kind d (suc (suc (suc zero))) z = absurd (z .0 .0 .0 .0 .0 .1 refl)
+no-kind d (suc (suc (suc (suc zero)))) z = absurd (z .0 .0 .0 .0 .1 refl)
+no-kind d (suc (suc (suc (suc (suc zero))))) z = absurd (z .0 .0 .0 .1 refl)
+no-kind d (suc (suc (suc (suc (suc (suc zero)))))) z = absurd (z .0 .0 .1 refl)
+no-kind d (suc (suc (suc (suc (suc (suc (suc zero))))))) z = absurd (z .0 .1 refl)
+no-kind d (suc (suc (suc (suc (suc (suc (suc (suc zero)))))))) z = absurd (z .1 refl)
+no-kind d (suc (suc (suc (suc (suc (suc (suc (suc (suc kind))))))))) z = refl
+
+-- a kind that is none of those on two qudits
+pub takes-one : (kind : ℕ) → kind ≢ 3 → kind ≢ 7 → kind ≢ 8 → takesTwo kind ≡ false
+takes-one kind a c w = rw (ne-eqb kind 3 a, ne-eqb kind 7 c, ne-eqb kind 8 w)
 
 -- ---- what a legal row's tests tell
 record Tests (d n kind i j k : ℕ) : Type 0 where
@@ -131,15 +141,18 @@ module _ (d n : ℕ) (w : WrittenRow) (legal : legalRow d n w ≡ true) where
 powered : {d n kind i j k : ℕ} → Tests d n kind i j k → OneQudit n (i - 1) 1 k (highest d kind)
 powered t = record { qudit = omega arith; power-low = t .power-low; power-high = t .power-high }
 
+paired : {d n kind i j k : ℕ} → Tests d n kind i j k → Second n i j → TwoQudits n (i - 1) (j - 1)
+paired t s = record { from-qudit = omega arith; to-qudit = omega arith; apart = λ e. s .other (omega arith) }
+
 meant-legal : {d n kind i j k : ℕ} → Kind kind → Tests d n kind i j k → Legal d n (rowOfKind kind (i - 1) (j - 1) k)
 meant-legal kind-f t = powered t
 meant-legal kind-s t = powered t
-meant-legal {n = n} {i = i} {j = j} kind-a t =
-    let s = two-held n i j (t .second) in
-    (record { from-qudit = omega arith; to-qudit = omega arith; apart = λ e. s .other (omega arith) }, powered t)
+meant-legal {n = n} {i = i} {j = j} kind-a t = (paired t (two-held n i j (t .second)), powered t)
 meant-legal {d = d} {k = k} kind-m t = (eqb-true (gcd k d) 1 (t .unit), powered t)
 meant-legal kind-x t = powered t
 meant-legal kind-z t = powered t
+meant-legal {n = n} {i = i} {j = j} kind-c t = (paired t (two-held n i j (t .second)), powered t)
+meant-legal {n = n} {i = i} {j = j} kind-w t = paired t (two-held n i j (t .second))
 
 pub legal-meant : (d n : ℕ) (w : WrittenRow) → legalRow d n w ≡ true → Legal d n (meant w)
 unfolding meant
@@ -153,13 +166,18 @@ row-path e f g h = cc
 meant-one : {d n kind i k : ℕ} (j : ℕ) → Tests d n kind i j k → eqb j 0 ≡ true → onOne kind (i - 1) k ≡ record { kind = kind; first = i; second = j; power = k }
 meant-one j t e = row-path refl (omega arith) (sym (eqb-true j 0 e)) refl
 
+meant-two : {d n kind i j k : ℕ} → Tests d n kind i j k → Second n i j → onTwo kind (i - 1) (j - 1) k ≡ record { kind = kind; first = i; second = j; power = k }
+meant-two t s = row-path refl (omega arith) (omega arith) refl
+
 meant-written : {d n kind i j k : ℕ} → Kind kind → Tests d n kind i j k → written (rowOfKind kind (i - 1) (j - 1) k) ≡ record { kind = kind; first = i; second = j; power = k }
 meant-written {j = j} kind-f t = meant-one j t (t .second)
 meant-written {j = j} kind-s t = meant-one j t (t .second)
-meant-written {n = n} {i = i} {j = j} kind-a t = let s = two-held n i j (t .second) in row-path refl (omega arith) (omega arith) refl
+meant-written {n = n} {i = i} {j = j} kind-a t = meant-two t (two-held n i j (t .second))
 meant-written {j = j} kind-m t = meant-one j t (t .second)
 meant-written {j = j} kind-x t = meant-one j t (t .second)
 meant-written {j = j} kind-z t = meant-one j t (t .second)
+meant-written {n = n} {i = i} {j = j} kind-c t = meant-two t (two-held n i j (t .second))
+meant-written {n = n} {i = i} {j = j} {k = k} kind-w t = let one : 1 ≡ k = omega (arith, t .power-low, t .power-high) in ap (onTwo 8 (i - 1) (j - 1)) one ∙ meant-two t (two-held n i j (t .second))
 
 pub written-meant : (d n : ℕ) (w : WrittenRow) → legalRow d n w ≡ true → written (meant w) ≡ w
 unfolding meant
@@ -174,7 +192,9 @@ highest-small d (suc (suc (suc zero))) = omega arith
 highest-small d (suc (suc (suc (suc zero)))) = omega arith
 highest-small d (suc (suc (suc (suc (suc zero))))) = omega arith
 highest-small d (suc (suc (suc (suc (suc (suc zero)))))) = omega arith
-highest-small d (suc (suc (suc (suc (suc (suc (suc kind))))))) = omega arith
+highest-small d (suc (suc (suc (suc (suc (suc (suc zero))))))) = omega arith
+highest-small d (suc (suc (suc (suc (suc (suc (suc (suc zero)))))))) = omega arith
+highest-small d (suc (suc (suc (suc (suc (suc (suc (suc (suc kind))))))))) = omega arith
 
 undone-m : (d : ℕ) (r : Row) → written r .kind ≡ 4 → withPower (written r) (inverseOf d (written r .power)) ≡ written (undo d r)
 undone-m d (F i k) e = absurd (omega arith)
@@ -183,6 +203,8 @@ undone-m d (A i j k) e = absurd (omega arith)
 undone-m d (M i k) e = refl
 undone-m d (X i k) e = absurd (omega arith)
 undone-m d (Z i k) e = absurd (omega arith)
+undone-m d (C i j k) e = absurd (omega arith)
+undone-m d (W i j) e = absurd (omega arith)
 
 undone : (d : ℕ) → 0 < d → (r : Row) → written r .kind ≢ 4 → withPower (written r) (highest d (written r .kind) + 1 - written r .power) ≡ written (undo d r)
 undone d p (F i k) ne = refl
@@ -191,6 +213,8 @@ undone d p (A i j k) ne = ap (onTwo 3 i j) (omega arith)
 undone d p (M i k) ne = absurd (ne refl)
 undone d p (X i k) ne = ap (onOne 5 i) (omega arith)
 undone d p (Z i k) ne = ap (onOne 6 i) (omega arith)
+undone d p (C i j k) ne = ap (onTwo 7 i j) (omega arith)
+undone d p (W i j) ne = refl
 
 module _ (d n : ℕ) (w : WrittenRow) (legal : legalRow d n w ≡ true) where
   same : written (meant w) ≡ w
@@ -214,6 +238,8 @@ meant-of-written (A i j k) = ap₂ (λ (x y : ℕ). A x y k) (omega arith) (omeg
 meant-of-written (M i k) = ap (λ (x : ℕ). M x k) (omega arith)
 meant-of-written (X i k) = ap (λ (x : ℕ). X x k) (omega arith)
 meant-of-written (Z i k) = ap (λ (x : ℕ). Z x k) (omega arith)
+meant-of-written (C i j k) = ap₂ (λ (x y : ℕ). C x y k) (omega arith) (omega arith)
+meant-of-written (W i j) = ap₂ W (omega arith) (omega arith)
 
 -- ---- and is legal where the row is
 both : {a b : Bool} → a ≡ true → b ≡ true → (a && b) ≡ true
@@ -246,6 +272,8 @@ legal-written d n (A i j k) l = legal-two d 3 (l .1) refl refl (l .0)
 legal-written d n (M i k) l = legal-one d 4 (l .1) (eq-eqb (gcd k d) 1 (l .0)) refl
 legal-written d n (X i k) l = legal-one d 5 l refl refl
 legal-written d n (Z i k) l = legal-one d 6 l refl refl
+legal-written d n (C i j k) l = legal-two d 7 (l .1) refl refl (l .0)
+legal-written d n (W i j) l = legal-two d 8 (record { qudit = l .from-qudit; power-low = omega arith; power-high = omega arith }) refl refl l
 
 -- ---- so the legal written rows are exactly what the legal rows are written as
 pub legal-exactly : (d n : ℕ) (w : WrittenRow) → (legalRow d n w ≡ true) ↔ ((r : Row) × ((w ≡ written r) × Legal d n r))

@@ -1,4 +1,4 @@
--- Gate rows and what they do to a Pauli (document 01, "Gate rows"). Qudits count from 0 here.
+-- Gate rows and what they do to a Pauli (document 01, "Gate rows"; C and W, document 02, P3). Qudits count from 0 here.
 use mathlib.Core.Path.{_≡_}
 use mathlib.Core.Bool.{Bool, false, _||_}
 use mathlib.Core.List.{List, [], _∷_}
@@ -8,7 +8,7 @@ use lib.Dec.{eqb}
 use Rattle.arith.specs.Gcd.{gcd}
 use Rattle.arith.specs.Units.{inverseOf}
 use Rattle.pauli.specs.Pauli.{Pauli}
-use Rattle.pauli.specs.Effects.{effectF, effectS, effectA, effectM, effectX, effectZ}
+use Rattle.pauli.specs.Effects.{effectF, effectS, effectA, effectM, effectX, effectZ, effectC, effectW}
 
 pub data Row : Type 0 where
   F : ℕ → ℕ → Row  -- qudit, power
@@ -17,6 +17,8 @@ pub data Row : Type 0 where
   M : ℕ → ℕ → Row
   X : ℕ → ℕ → Row
   Z : ℕ → ℕ → Row
+  C : ℕ → ℕ → ℕ → Row  -- the two qudits, power
+  W : ℕ → ℕ → Row  -- the two qudits; its power is 1
 
 pub record OneQudit (n i low k high : ℕ) : Type 0 where
   pub qudit : i < n
@@ -35,6 +37,8 @@ Legal d n (A i j k) = TwoQudits n i j × OneQudit n i 1 k (d - 1)
 Legal d n (M i k) = (gcd k d ≡ 1) × OneQudit n i 1 k (d - 1)
 Legal d n (X i k) = OneQudit n i 1 k (d - 1)
 Legal d n (Z i k) = OneQudit n i 1 k (d - 1)
+Legal d n (C i j k) = TwoQudits n i j × OneQudit n i 1 k (d - 1)
+Legal d n (W i j) = TwoQudits n i j
 
 -- the qudits that a row uses: its first, and its second where its kind takes two
 abbrev pub quditsOf : Row → List ℕ
@@ -44,6 +48,8 @@ quditsOf (A i j k) = i ∷ j ∷ []
 quditsOf (M i k) = i ∷ []
 quditsOf (X i k) = i ∷ []
 quditsOf (Z i k) = i ∷ []
+quditsOf (C i j k) = i ∷ j ∷ []
+quditsOf (W i j) = i ∷ j ∷ []
 
 -- whether q is one of these
 abbrev pub among : ℕ → List ℕ → Bool
@@ -62,6 +68,8 @@ apply d (A i j k) p = effectA d i j k p
 apply d (M i k) p = effectM d i k p
 apply d (X i k) p = effectX d i k p
 apply d (Z i k) p = effectZ d i k p
+apply d (C i j k) p = effectC d i j k p
+apply d (W i j) p = effectW i j p
 
 -- what a list carries a Pauli to: the first row first
 abbrev pub run : ℕ → List Row → Pauli → Pauli
@@ -80,3 +88,5 @@ undo d (A i j k) = A i j (d - k)
 undo d (M i k) = M i (inverseOf d k)
 undo d (X i k) = X i (d - k)
 undo d (Z i k) = Z i (d - k)
+undo d (C i j k) = C i j (d - k)
+undo d (W i j) = W i j

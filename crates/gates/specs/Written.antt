@@ -1,13 +1,13 @@
--- Gate rows as they are written in bytes (document 01, "Bytes" and "Gate rows"): kind, first qudit, second qudit (0 where the kind has one), power.
+-- Gate rows as they are written in bytes (document 01, "Bytes" and "Gate rows"; kinds 7 and 8, document 02, P3): kind, first qudit, second qudit (0 where the kind has one), power.
 -- Qudits count from 1 here. What depends on the kind is a table with a line for each; another kind adds a line.
 use mathlib.Core.List.{List, [], _∷_, _++_, map}
-use mathlib.Core.Bool.{Bool, true, not, _&&_, cond}
+use mathlib.Core.Bool.{Bool, true, not, _&&_, _||_, cond}
 use Prim.Native.Nat.{ℕ, zero, suc, _+_, _*_, _-_, _/_}
 use lib.ListN.{length, getD}
 use lib.Dec.{leb, eqb}
 use Rattle.arith.specs.Gcd.{gcd}
 use Rattle.arith.specs.Bytes.{tab, numberAt, bytesOf}
-use Rattle.gates.specs.Row.{Row, F, S, A, M, X, Z}
+use Rattle.gates.specs.Row.{Row, F, S, A, M, X, Z, C, W}
 
 pub record WrittenRow : Type 0 where
   pub kind : ℕ
@@ -33,6 +33,8 @@ written (A i j k) = onTwo 3 i j k
 written (M i k) = onOne 4 i k
 written (X i k) = onOne 5 i k
 written (Z i k) = onOne 6 i k
+written (C i j k) = onTwo 7 i j k
+written (W i j) = onTwo 8 i j 1
 
 -- ---- what a written row means
 -- the line of a kind in a table whose lines are the kinds from 1 on; `other` where there is no such kind
@@ -42,7 +44,7 @@ ofKind lines (suc kind) other = getD lines kind other
 
 -- the row of a kind with power k, on the qudits i and j counted from 0. (What no kind has is never asked: such a row isn't legal.)
 abbrev pub rowOfKind : ℕ → ℕ → ℕ → ℕ → Row
-rowOfKind kind i j k = ofKind (F i k ∷ S i k ∷ A i j k ∷ M i k ∷ X i k ∷ Z i k ∷ []) kind (F i k)
+rowOfKind kind i j k = ofKind (F i k ∷ S i k ∷ A i j k ∷ M i k ∷ X i k ∷ Z i k ∷ C i j k ∷ W i j ∷ []) kind (F i k)
 
 unfoldable pub meant : WrittenRow → Row
 meant w = rowOfKind (w .kind) (w .first - 1) (w .second - 1) (w .power)
@@ -52,23 +54,23 @@ meant w = rowOfKind (w .kind) (w .first - 1) (w .second - 1) (w .power)
 abbrev pub between : ℕ → ℕ → ℕ → Bool
 between low high x = leb low x && leb x high
 
--- the highest legal power of F, S, A, M, X and Z; no power of any other kind is legal
+-- the highest legal power of F, S, A, M, X, Z, C and W; no power of any other kind is legal
 abbrev pub highest : ℕ → ℕ → ℕ
-highest d kind = ofKind (3 ∷ (2 * d - 1) ∷ (d - 1) ∷ (d - 1) ∷ (d - 1) ∷ (d - 1) ∷ []) kind 0
+highest d kind = ofKind (3 ∷ (2 * d - 1) ∷ (d - 1) ∷ (d - 1) ∷ (d - 1) ∷ (d - 1) ∷ (d - 1) ∷ 1 ∷ []) kind 0
 
 -- a legal power: 1 to the highest, for M a unit
 abbrev pub legalPower : ℕ → ℕ → ℕ → Bool
 legalPower d kind k = between 1 (highest d kind) k && cond (eqb kind 4) (eqb (gcd k d) 1) true
 
--- the kinds that take a second qudit: A
+-- the kinds that take a second qudit: A, C and W
 abbrev pub takesTwo : ℕ → Bool
-takesTwo kind = eqb kind 3
+takesTwo kind = eqb kind 3 || (eqb kind 7 || eqb kind 8)
 
--- a legal second qudit j beside the first one i: 0, or for A 1 to n and not i
+-- a legal second qudit j beside the first one i: 0, or for A, C and W 1 to n and not i
 abbrev pub legalSecond : ℕ → ℕ → ℕ → ℕ → Bool
 legalSecond n kind i j = cond (takesTwo kind) (between 1 n j && not (eqb j i)) (eqb j 0)
 
--- its kind is 1 to 6, its power is legal, i is 1 to n, and j is 0, or for A is 1 to n and not i
+-- its kind is 1 to 8, its power is legal, i is 1 to n, and j is 0, or for A, C and W is 1 to n and not i
 unfoldable pub legalRow : ℕ → ℕ → WrittenRow → Bool
 legalRow d n w = legalPower d (w .kind) (w .power) && (between 1 n (w .first) && legalSecond n (w .kind) (w .first) (w .second))
 

@@ -46,12 +46,24 @@ pub fn highest_power(kind: u16, d: u16) -> u16
     requires { ⌜ Dimension d ⌝ }
     ensures { λ r. ⌜ r ≡ highest d kind ⌝ }
 {
-    let highs = [0, 3, 2 * d - 1, d - 1, d - 1, d - 1, d - 1];
+    let highs = [0, 3, 2 * d - 1, d - 1, d - 1, d - 1, d - 1, d - 1, 1];
     let line = kind as usize;
-    if line < 7 {
+    if line < 9 {
         return highs[line];
     }
     0
+}
+
+// Whether the kind takes a second qudit: A, C and W.
+fn takes_two(kind: u16) -> bool
+    ensures { λ r. ⌜ r ≡ takesTwo kind ⌝ }
+{
+    match kind {
+        3 => true,
+        7 => true,
+        8 => true,
+        _ => false,
+    }
 }
 
 impl Row {
@@ -72,21 +84,17 @@ impl Row {
         }
     }
 
-    // The second qudit is 0, or for A is 1 to n and not the first.
+    // The second qudit is 0, or for A, C and W is 1 to n and not the first.
     fn legal_second(self, n: usize) -> bool
         ensures { λ r. ⌜ r ≡ legalSecond n (self .kind) (self .first) (self .second) ⌝ }
     {
-        let kind = self.kind;
-        match kind {
-            3 => {
-                if within(1, n, self.second as usize) {
-                    self.second != self.first
-                } else {
-                    false
-                }
+        if takes_two(self.kind) {
+            if within(1, n, self.second as usize) {
+                return self.second != self.first;
             }
-            _ => self.second == 0,
+            return false;
         }
+        self.second == 0
     }
 
     // Whether the row is legal.
@@ -131,11 +139,10 @@ impl Row {
         requires { ⌜ (1 ≤ self .first) × (takesTwo (self .kind) ≡ true → 1 ≤ self .second) ⌝ }
         ensures { λ r. ⌜ r ≡ otherOf (viewRow self) ⌝ }
     {
-        let kind = self.kind;
-        match kind {
-            3 => self.second as usize - 1,
-            _ => self.first as usize - 1,
+        if takes_two(self.kind) {
+            return self.second as usize - 1;
         }
+        self.first as usize - 1
     }
 
     // The row with what its effect needs besides.
@@ -153,6 +160,32 @@ impl Row {
                 row: self,
                 inverse: Residue::ONE,
             },
+        }
+    }
+
+    // What the row makes of the Pauli. The inverse is computed where the kind is M, and not before the match, so that a row of another kind asks once what it is.
+    pub fn apply(self, p: Pauli, d: u16, n: usize) -> Pauli
+        requires { ⌜ Dimension d × (n ≤ 16) ⌝ }
+        requires { ⌜ legalRow d n (viewRow self) ≡ true ⌝ }
+        ensures { λ r. ⌜ view n r ≡ apply d (meant (viewRow self)) (view n p) ⌝ }
+        ensures { λ r. ⌜ (WordTrue n p → WordTrue n r) ⌝ }
+    {
+        let kind = self.kind;
+        let i = self.first - 1;
+        let k = Power(self.power);
+        match kind {
+            1 => p.effect_f(i, k, d),
+            2 => p.effect_s(i, k, d),
+            3 => p.effect_a(i, self.second - 1, k, d),
+            4 => {
+                let inverse = arith::divisor::inverse(Residue::below(self.power, d), d);
+                p.effect_m(i, k, inverse, d)
+            }
+            5 => p.effect_x(i, k, d),
+            6 => p.effect_z(i, k, d),
+            7 => p.effect_c(i, self.second - 1, k, d),
+            8 => p.effect_w(i, self.second - 1),
+            _ => p,
         }
     }
 }
@@ -173,29 +206,9 @@ impl Ready {
             4 => t.effect_m(k, self.inverse, d),
             5 => t.effect_x(k, d),
             6 => t.effect_z(k, d),
+            7 => t.effect_c(k, d),
+            8 => t.effect_w(),
             _ => t,
-        }
-    }
-
-    // What the row makes of the Pauli.
-    pub fn apply(self, p: Pauli, d: u16, n: usize) -> Pauli
-        requires { ⌜ Dimension d × (n ≤ 16) ⌝ }
-        requires { ⌜ (legalRow d n (viewRow (self .row)) ≡ true) × InverseRight d self ⌝ }
-        ensures { λ r. ⌜ view n r ≡ apply d (meant (viewRow (self .row))) (view n p) ⌝ }
-        ensures { λ r. ⌜ (WordTrue n p → WordTrue n r) ⌝ }
-    {
-        let row = self.row;
-        let kind = row.kind;
-        let i = row.first - 1;
-        let k = Power(row.power);
-        match kind {
-            1 => p.effect_f(i, k, d),
-            2 => p.effect_s(i, k, d),
-            3 => p.effect_a(i, row.second - 1, k, d),
-            4 => p.effect_m(i, k, self.inverse, d),
-            5 => p.effect_x(i, k, d),
-            6 => p.effect_z(i, k, d),
-            _ => p,
         }
     }
 }

@@ -50,7 +50,7 @@ fn run_row(list: &[u8], r: usize, p: Pauli, d: u16, n: usize) -> Pauli
     ensures { λ q. ⌜ view n q ≡ apply d (meant (rowAt (now (list .entry)) r)) (view n p) ⌝ }
     ensures { λ q. ⌜ (WordTrue n p → WordTrue n q) ⌝ }
 {
-    read_row(list, r).ready(d).apply(p, d, n)
+    read_row(list, r).apply(p, d, n)
 }
 
 // What the list carries the Pauli to: each row takes what the one before it handed on.

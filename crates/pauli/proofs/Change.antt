@@ -21,6 +21,9 @@ module _ (d k : ℕ) (large : 2 ≤ d) where
   pub s-phase : (δ x : ℕ) → Cong (2 * d) (δ + k * (x * (x + d) % (2 * d)) % (2 * d)) (δ + k * (x * (x + d)))
   s-phase δ x = ring₂ d (k ∷ δ ∷ x ∷ []) pos (search quote depth 30) (search quote depth 30) tt
 
+  pub c-phase : (δ x y : ℕ) → Cong (2 * d) (δ + 2 * ((k * x % d) * y % d) % (2 * d)) (δ + 2 * (k * (x * y)))
+  c-phase δ x y = ring₂ d (k ∷ δ ∷ x ∷ y ∷ []) pos (search quote depth 30) (search quote depth 30) tt
+
   pub plus-entry : (y x : ℕ) → Cong d (y + k * x % d) (y + k * x)
   plus-entry y x = ring₁ d (k ∷ y ∷ x ∷ []) pos (search quote depth 30) (search quote depth 30) tt
 

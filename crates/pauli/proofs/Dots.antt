@@ -5,12 +5,13 @@ use mathlib.Core.Logic.{_≢_}
 use Prim.Native.Nat.{ℕ, zero, suc, _+_, _*_, _%_, _<_}
 use native.Mathlib.Nat.{not-suc-le-zero, le-of-suc-le-suc, mul-comm, mul-zero, suc-inj, suc-ne-zero}
 use native.Mathlib.Omega.{arith}
-use lib.ListN.{length, getD, set, replicate}
+use lib.ListN.{length, getD, set, replicate, length-set}
 use lib.Seq.{getD-set-other}
 use Rattle.arith.proofs.Cong.{Cong, cong-refl, cong-of-eq}
 use Rattle.arith.proofs.Ring.{ring₁-by, times, quote}
 use Rattle.arith.proofs.Divides.{Dvd, dvd-zero, dvd-add, dvd-mul-r}
 use Rattle.pauli.specs.Pauli.{dot, plus}
+use Rattle.pauli.specs.Effects.{exchanged}
 use Rattle.pauli.proofs.Lists.{getD-zeros, single-same, single-other}
 use Rattle.pauli.proofs.Sums.{scaled}
 
@@ -68,6 +69,21 @@ dot-set-r xs ys i b h = omega (arith, dot-comm xs (set ys i b), dot-comm xs ys, 
 pub dot-set-apart : (xs ys : List ℕ) (i j a b : ℕ) → i < length xs → j < length ys → i ≢ j
     → dot (set xs i a) (set ys j b) + (getD xs i 0 * getD ys i 0 + getD xs j 0 * getD ys j 0) ≡ dot xs ys + (a * getD ys i 0 + getD xs j 0 * b)
 dot-set-apart xs ys i j a b h k ne = omega (arith, rw (getD-set-other ys j i b 0 ne) at (dot-set-l xs (set ys j b) i a h), dot-set-r xs ys j b k)
+
+-- the first list set at i and j, and both lists with the entries i and j exchanged
+pub dot-set-two : (xs ys : List ℕ) (i j a b : ℕ) → i < length xs → j < length xs → i ≢ j
+    → dot (set (set xs i a) j b) ys + (getD xs i 0 * getD ys i 0 + getD xs j 0 * getD ys j 0) ≡ dot xs ys + (a * getD ys i 0 + b * getD ys j 0)
+dot-set-two xs ys i j a b h k ne =
+    omega (arith, rw (getD-set-other xs i j a 0 (λ e. ne (sym e))) at (dot-set-l (set xs i a) ys j b (rw length-set k)), dot-set-l xs ys i a h)
+
+pub dot-exchanged : (xs ys : List ℕ) (i j : ℕ) → i < length xs → i < length ys → j < length xs → j < length ys → i ≢ j → dot (exchanged i j xs) (exchanged i j ys) ≡ dot xs ys
+dot-exchanged xs ys i j hx hy kx ky ne =
+    let other : j ≢ i = λ e. ne (sym e) in
+    omega (
+      arith,
+      rw (getD-set-other xs i j (getD xs j 0) 0 other, getD-set-other ys i j (getD ys j 0) 0 other) at (dot-set (set xs i (getD xs j 0)) (set ys i (getD ys j 0)) j (getD xs i 0) (getD ys i 0) (rw length-set kx) (rw length-set ky)),
+      dot-set xs ys i (getD xs j 0) (getD ys j 0) hx hy,
+    )
 
 -- ---- with a list of zeros, and with a list that is zero but at k
 dot-none : (xs ys : List ℕ) → ((i : ℕ) → getD ys i 0 ≡ 0) → dot xs ys ≡ 0

@@ -8,9 +8,9 @@ use Rattle.arith.proofs.Cong.{cong-of-eq}
 use Rattle.arith.proofs.Remainders.{idle, neg-none, mul-none, neg-zero}
 use Rattle.arith.specs.Units.{inverseOf}
 use Rattle.pauli.specs.Pauli.{Pauli, InRange, phaseOnly}
-use Rattle.pauli.proofs.Lists.{getD-zeros, set-back}
+use Rattle.pauli.proofs.Lists.{getD-zeros, set-back, two-back}
 use Rattle.pauli.proofs.Ranges.{pauli-path, w-less, v-less}
-use Rattle.pauli.specs.Effects.{fourier, times, effectF, effectS, effectA, effectM, effectX, effectZ}
+use Rattle.pauli.specs.Effects.{fourier, times, effectF, effectS, effectA, effectM, effectX, effectZ, effectC, effectW}
 
 pub record ZeroAt (i : ℕ) (p : Pauli) : Type 0 where
   pub v-zero : getD (p .v) i 0 ≡ 0
@@ -53,6 +53,18 @@ frame-a {d} {p = p} i j k pos a z y = pauli-path
     refl
     (set-back (p .v) j (idle (v-less a j) (cong-of-eq (mul-none k (z .v-zero)))))
     (set-back (p .w) i (idle (w-less a i) (neg-none pos (mul-none k (y .w-zero)))))
+
+pub frame-c : {d n : ℕ} {p : Pauli} (i j k : ℕ) → InRange d n p → ZeroAt i p → ZeroAt j p → effectC d i j k p ≡ p
+frame-c {p = p} i j k a z y = pauli-path
+    (idle (a .phase-below) (cong-of-eq (mul-none 2 (mul-none k (mul-none (getD (p .v) i 0) (y .v-zero))))))
+    refl
+    (two-back (p .w) i j (idle (w-less a i) (cong-of-eq (mul-none k (y .v-zero)))) (idle (w-less a j) (cong-of-eq (mul-none k (z .v-zero)))))
+
+pub frame-w : {p : Pauli} (i j : ℕ) → ZeroAt i p → ZeroAt j p → effectW i j p ≡ p
+frame-w {p} i j z y = pauli-path
+    refl
+    (two-back (p .v) i j (y .v-zero ∙ sym (z .v-zero)) (z .v-zero ∙ sym (y .v-zero)))
+    (two-back (p .w) i j (y .w-zero ∙ sym (z .w-zero)) (z .w-zero ∙ sym (y .w-zero)))
 
 -- a phase alone has only zeros
 pub phase-zero : (n h i : ℕ) → ZeroAt i (phaseOnly n h)

@@ -16,6 +16,7 @@ pub mod Lists
 pub mod Marks
 pub mod Onto
 pub mod Ranges
+pub mod Relations
 pub mod Step
 pub mod Still
 pub mod Sums

@@ -6,7 +6,7 @@ use mathlib.Core.Logic.{_≢_}
 use Prim.Native.Nat.{ℕ, zero, suc, _+_, _<_}
 use native.Mathlib.Omega.{arith}
 use lib.ListN.{length, getD, take, drop, set, replicate, length-set, length-replicate}
-use lib.Seq.{set-getD, set-set, getD-set-same, getD-set-other, ext-getD}
+use lib.Seq.{set-getD, set-set, set-comm, getD-set-same, getD-set-other, ext-getD}
 use Rattle.arith.proofs.Cases.{by-eq}
 use Rattle.pauli.specs.Pauli.{Below, none, more}
 
@@ -75,6 +75,22 @@ set-back xs i e = ap (λ (x : ℕ). set xs i x) e ∙ set-getD xs i 0
 
 pub set-set-back : (xs : List ℕ) (i a : ℕ) {b : ℕ} → b ≡ getD xs i 0 → set (set xs i a) i b ≡ xs
 set-set-back xs i a {b} e = set-set xs i a b ∙ set-back xs i e
+
+-- ---- two entries set
+module _ (l : List ℕ) {i j : ℕ} (x y : ℕ) (apart : i ≢ j) where
+  pub stored-first : i < length l → getD (set (set l i x) j y) i 0 ≡ x
+  stored-first h = getD-set-other (set l i x) j i y 0 apart ∙ getD-set-same l i x 0 h
+
+  pub stored-second : j < length l → getD (set (set l i x) j y) j 0 ≡ y
+  stored-second h = getD-set-same (set l i x) j y 0 (omega (arith, length-set l i x))
+
+-- two entries put back, and set once more
+pub two-back : (xs : List ℕ) (i j : ℕ) {a b : ℕ} → a ≡ getD xs i 0 → b ≡ getD xs j 0 → set (set xs i a) j b ≡ xs
+two-back xs i j {b = b} e f = ap (λ (l : List ℕ). set l j b) (set-back xs i e) ∙ set-back xs j f
+
+pub two-again : (xs : List ℕ) {i j : ℕ} (a b x y : ℕ) → i ≢ j → set (set (set (set xs i a) j b) i x) j y ≡ set (set xs i x) j y
+two-again xs {i} {j} a b x y apart =
+    ap (λ (l : List ℕ). set l j y) (set-comm (set xs i a) j i b x (λ e. apart (sym e)) ∙ ap (λ (l : List ℕ). set l j b) (set-set xs i a x)) ∙ set-set (set xs i x) j b y
 
 -- a loop that sets the places g 0, g 1, .. of a list to f 0, f 1, ..: after place i
 pub set-next : (f g : ℕ → ℕ) (l : List ℕ) (i x : ℕ) → ((j : ℕ) → j < i → g j ≢ g i) → g i < length l → x ≡ f i → ((j : ℕ) → j < i → getD l (g j) 0 ≡ f j) → (j : ℕ) → j < i + 1 → getD (set l (g i) x) (g j) 0 ≡ f j

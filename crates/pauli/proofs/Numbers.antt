@@ -1,5 +1,5 @@
 -- What each kind of row makes of the numbers that it touches is what its effect makes of the Pauli. Assumes nothing.
-use mathlib.Core.Path.{_≡_, refl, sym, ap, subst, _∙_}
+use mathlib.Core.Path.{_≡_, refl, sym, ap, ap₂, subst, _∙_}
 use mathlib.Core.Logic.{_≢_}
 use Prim.Native.Nat.{ℕ, _+_, _*_, _%_, _<_}
 use native.Mathlib.Omega.{arith}
@@ -12,8 +12,8 @@ use Rattle.pauli.specs.declared.Pauli.{Pauli as Code}
 use Rattle.pauli.specs.inner.View.{at, view}
 use Rattle.arith.proofs.Bytes.{tab-length}
 use Rattle.pauli.specs.inner.Touched.{Touched, touched, placed, replaced, Has, Puts, OnOne}
-use Rattle.pauli.specs.Effects.{fourier, effectS, effectA, effectM, effectX, effectZ}
-use Rattle.pauli.proofs.Lists.{set-back}
+use Rattle.pauli.specs.Effects.{fourier, effectS, effectA, effectM, effectX, effectZ, effectC, effectW}
+use Rattle.pauli.proofs.Lists.{set-back, stored-first, stored-second, two-back}
 use Rattle.pauli.proofs.Ranges.{pauli-path}
 
 -- the numbers of one qudit
@@ -44,13 +44,9 @@ placed-one {i} {p} r = r .replaces ∙ pauli-path refl
     (set-set (p .v) i _ _ ∙ ap (set (p .v) i) (sym (ap (λ (t : Touched). t .vj) (r .holds)) ∙ ap (λ (t : Touched). t .vi) (r .holds)))
     (set-set (p .w) i _ _ ∙ ap (set (p .w) i) (sym (ap (λ (t : Touched). t .wj) (r .holds)) ∙ ap (λ (t : Touched). t .wi) (r .holds)))
 
--- the second of two stores stands, and the first where it is elsewhere
-module _ (l : _) {i j : ℕ} (x y : ℕ) (apart : i ≢ j) where
-  stored-first : i < length l → getD (set (set l i x) j y) i 0 ≡ x
-  stored-first h = getD-set-other (set l i x) j i y 0 apart ∙ getD-set-same l i x 0 h
-
-  stored-second : j < length l → getD (set (set l i x) j y) j 0 ≡ y
-  stored-second h = getD-set-same (set l i x) j y 0 (omega (arith, length-set l i x))
+-- on two, one pair is put after the other
+pub placed-two : {i j : ℕ} {p q r s : Pauli} {t : Touched} → q ≡ placed i (t .phase) (t .vi) (t .wi) p → r ≡ placed j (t .phase) (t .vj) (t .wj) q → Puts i j t p s → r ≡ s
+placed-two {j = j} {t = t} e f u = f ∙ ap (placed j (t .phase) (t .vj) (t .wj)) e ∙ sym (u .replaces)
 
 module _ {i j : ℕ} {p q : Pauli} {h x z y u : ℕ} (apart : i ≢ j) (a : Has i p) (b : Has j p)
     (e : q .phase ≡ h) (f : q .v ≡ set (set (p .v) i x) j y) (g : q .w ≡ set (set (p .w) i z) j u) where
@@ -119,3 +115,14 @@ puts-a d k {i} {j} {p} {o} {z} {y} apart a b e = subst (λ (o : Touched). z ≡ 
     (λ ez ey. puts-two apart a b refl
     (ap (set (p .v) j) (sym ey) ∙ ap (λ (l : _). set l j y) (sym (set-back (p .v) i refl)))
     (ap (set (p .w) i) (sym ez) ∙ sym (set-back (set (p .w) i z) j (sym (getD-set-other (p .w) i j z 0 (λ q. apart (sym q)))))))
+
+pub puts-c : (d k : ℕ) {i j : ℕ} {p : Pauli} {o : Touched} {h z u : ℕ} → i ≢ j → Has i p → Has j p → touched i j p ≡ o
+    → h ≡ (o .phase + 2 * (k * (o .vi * o .vj))) % (2 * d) → z ≡ (o .wi + k * o .vj) % d → u ≡ (o .wj + k * o .vi) % d
+    → Puts i j (record { phase = h; vi = o .vi; wi = z; vj = o .vj; wj = u }) p (effectC d i j k p)
+puts-c d k {i} {j} {p} {o} {h} {z} {u} apart a b e = subst (λ (o : Touched). h ≡ (o .phase + 2 * (k * (o .vi * o .vj))) % (2 * d) → z ≡ (o .wi + k * o .vj) % d → u ≡ (o .wj + k * o .vi) % d
+    → Puts i j (record { phase = h; vi = o .vi; wi = z; vj = o .vj; wj = u }) p (effectC d i j k p)) e
+    (λ eh ez eu. puts-two apart a b (sym eh) (sym (two-back (p .v) i j refl refl)) (ap₂ (λ (x y : ℕ). set (set (p .w) i x) j y) (sym ez) (sym eu)))
+
+pub puts-w : {i j : ℕ} {p : Pauli} {o : Touched} → i ≢ j → Has i p → Has j p → touched i j p ≡ o
+    → Puts i j (record { phase = o .phase; vi = o .vj; wi = o .wj; vj = o .vi; wj = o .wi }) p (effectW i j p)
+puts-w {i} {j} {p} apart a b e = subst (λ (o : Touched). Puts i j (record { phase = o .phase; vi = o .vj; wi = o .wj; vj = o .vi; wj = o .wi }) p (effectW i j p)) e (puts-two apart a b refl refl refl)

@@ -1,6 +1,6 @@
 -- The effect of each kind of row keeps products and phases: each is a step, and the algebra at its entries is put to the solver.
 -- In the algebra v, w are the entries of the first Pauli and s, t those of the second; x and y are the dots before and after.
-use mathlib.Core.Path.{_≡_, refl, sym, ap}
+use mathlib.Core.Path.{_≡_, refl, sym, ap, ap₂}
 use mathlib.Core.List.{[], _∷_}
 use mathlib.Core.Logic.{_≢_}
 use Prim.Native.Nat.{ℕ, _+_, _*_, _%_, _<_}
@@ -16,10 +16,10 @@ use Rattle.arith.specs.Units.{inverseOf}
 use Rattle.arith.proofs.Units.{inverse-times}
 use Rattle.pauli.specs.Pauli.{dot, plus}
 use Rattle.pauli.proofs.Sums.{getD-plus, plus-set}
-use Rattle.pauli.proofs.Dots.{dot-set-l, dot-set, dot-set-apart}
-use Rattle.pauli.proofs.Ranges.{set-w-range, phase-range, set-v-range, v-less, in-w, in-v, phaseOnly-range}
-use Rattle.pauli.specs.Effects.{fourier, effectS, effectA, effectM, effectX, effectZ}
-use Rattle.pauli.proofs.Frame.{fourier-frame, phase-zero, frame-s, frame-a, frame-m, frame-x, frame-z}
+use Rattle.pauli.proofs.Dots.{dot-set-l, dot-set, dot-set-apart, dot-set-two, dot-exchanged}
+use Rattle.pauli.proofs.Ranges.{set-w-range, phase-range, set-v-range, v-less, w-less, in-w, in-v, phaseOnly-range}
+use Rattle.pauli.specs.Effects.{fourier, effectS, effectA, effectM, effectX, effectZ, effectC, effectW}
+use Rattle.pauli.proofs.Frame.{fourier-frame, phase-zero, frame-s, frame-a, frame-m, frame-x, frame-z, frame-c, frame-w}
 use Rattle.pauli.proofs.Step.{Step}
 
 -- ---- F
@@ -62,7 +62,7 @@ s-dot d k x y v w s p e = ring₁-by d (k ∷ x ∷ y ∷ v ∷ w ∷ s ∷ []) 
 s-quadratic : (d k v s : ℕ) → 0 < d → Cong (2 * d) (k * (((v + s) % d) * ((v + s) % d + d))) (k * (v * (v + d)) + k * (s * (s + d)) + 2 * (k * (v * s)))
 s-quadratic d k v s p = ring₂ d (k ∷ v ∷ s ∷ []) p (search quote depth 30) (search quote depth 30) tt
 
--- an entry to which k times another is added, of S and of A
+-- an entry to which k times another is added, of S, A and C
 add-entry : (d k v w s t : ℕ) → 0 < d → Cong d ((w + t) % d + k * ((v + s) % d)) ((w + k * v) % d + (t + k * s) % d)
 add-entry d k v w s t p = ring₁ d (k ∷ v ∷ w ∷ s ∷ t ∷ []) p (search quote depth 30) (search quote depth 30) tt
 
@@ -176,4 +176,50 @@ module _ {d n : ℕ} (i k : ℕ) (pos : 0 < d) (l : i < n) where
     v-plus = λ a b. refl;
     w-plus = λ a b. refl;
     phases = λ h m. frame-z i k pos (phaseOnly-range n h pos m) (phase-zero n h i);
+  }
+
+-- ---- C
+c-dot : (d k x y vi vj wi wj si sj : ℕ) → 0 < d → y + (wi * si + wj * sj) ≡ x + (((wi + k * vj) % d) * si + ((wj + k * vi) % d) * sj) → Cong d y (x + k * (vi * sj + vj * si))
+c-dot d k x y vi vj wi wj si sj p e = ring₁-by d (k ∷ x ∷ y ∷ vi ∷ vj ∷ wi ∷ wj ∷ si ∷ sj ∷ []) p
+    (times {z = 1} (search quote) (search quote) (search quote depth 30) (cong-of-eq e)) (search quote depth 30) (search quote depth 30) tt
+
+c-quadratic : (d k vi vj si sj : ℕ) → 0 < d
+    → Cong (2 * d) (2 * (k * (((vi + si) % d) * ((vj + sj) % d)))) (2 * (k * (vi * vj)) + 2 * (k * (si * sj)) + 2 * (k * (vi * sj + vj * si)))
+c-quadratic d k vi vj si sj p = ring₂ d (k ∷ vi ∷ vj ∷ si ∷ sj ∷ []) p (search quote depth 30) (search quote depth 30) tt
+
+module _ {d n : ℕ} (i j k : ℕ) (pos : 0 < d) (li : i < n) (lj : j < n) (apart : i ≢ j) where
+  pub c-step : Step d n (effectC d i j k)
+  c-step = record {
+    shift = λ p. 2 * (k * (getD (p .v) i 0 * getD (p .v) j 0));
+    twist = λ p q. k * (getD (p .v) i 0 * getD (q .v) j 0 + getD (p .v) j 0 * getD (q .v) i 0);
+    range = λ r. set-w-range (set-w-range (phase-range r (mod-lt _ (omega arith))) i (mod-lt _ pos)) j (mod-lt _ pos);
+    phase-by = λ r. refl;
+    dot-by = λ {p} {q} a b.
+        c-dot d k (dot (p .w) (q .v)) _ (getD (p .v) i 0) (getD (p .v) j 0) (getD (p .w) i 0) (getD (p .w) j 0) (getD (q .v) i 0) (getD (q .v) j 0) pos
+        (dot-set-two (p .w) (q .v) i j _ _ (in-w a li) (in-w a lj) apart);
+    quadratic = λ {p} {q} a b.
+        rw (getD-plus d (p .v) (q .v) i (in-v a li) (in-v b li), getD-plus d (p .v) (q .v) j (in-v a lj) (in-v b lj))
+        (c-quadratic d k (getD (p .v) i 0) (getD (p .v) j 0) (getD (q .v) i 0) (getD (q .v) j 0) pos);
+    v-plus = λ a b. refl;
+    w-plus = λ {p} {q} a b.
+        rw (getD-plus d (p .v) (q .v) i (in-v a li) (in-v b li), getD-plus d (p .v) (q .v) j (in-v a lj) (in-v b lj), getD-plus d (p .w) (q .w) i (in-w a li) (in-w b li), getD-plus d (p .w) (q .w) j (in-w a lj) (in-w b lj), plus-set, plus-set)
+        (ap₂ (λ (x y : ℕ). set (set (plus d (p .w) (q .w)) i x) j y)
+        (add-entry d k (getD (p .v) j 0) (getD (p .w) i 0) (getD (q .v) j 0) (getD (q .w) i 0) pos .same)
+        (add-entry d k (getD (p .v) i 0) (getD (p .w) j 0) (getD (q .v) i 0) (getD (q .w) j 0) pos .same));
+    phases = λ h m. frame-c i j k (phaseOnly-range n h pos m) (phase-zero n h i) (phase-zero n h j);
+  }
+
+-- ---- W
+module _ {d n : ℕ} (i j : ℕ) (pos : 0 < d) (li : i < n) (lj : j < n) (apart : i ≢ j) where
+  pub w-step : Step d n (effectW i j)
+  w-step = record {
+    shift = λ p. 0;
+    twist = λ p q. 0;
+    range = λ r. set-w-range (set-w-range (set-v-range (set-v-range r i (v-less r j)) j (v-less r i)) i (w-less r j)) j (w-less r i);
+    phase-by = λ r. sym (idle (r .phase-below) (cong-refl 0));
+    dot-by = λ {p} {q} a b. cong-of-eq (omega (arith, dot-exchanged (p .w) (q .v) i j (in-w a li) (in-v b li) (in-w a lj) (in-v b lj) apart));
+    quadratic = λ a b. cong-of-eq (omega arith);
+    v-plus = λ {p} {q} a b. rw (getD-plus d (p .v) (q .v) i (in-v a li) (in-v b li), getD-plus d (p .v) (q .v) j (in-v a lj) (in-v b lj), plus-set, plus-set) refl;
+    w-plus = λ {p} {q} a b. rw (getD-plus d (p .w) (q .w) i (in-w a li) (in-w b li), getD-plus d (p .w) (q .w) j (in-w a lj) (in-w b lj), plus-set, plus-set) refl;
+    phases = λ h m. frame-w i j (phase-zero n h i) (phase-zero n h j);
   }

@@ -14,8 +14,8 @@ use Rattle.arith.proofs.Cong.{cong-of-eq}
 use Rattle.arith.proofs.Remainders.{mod-of, idle, mul-none, neg-none, neg-zero}
 use Rattle.pauli.specs.Pauli.{Pauli}
 use Rattle.pauli.specs.inner.Touched.{touched, still}
-use Rattle.pauli.specs.Effects.{fourier, effectF, effectS, effectA, effectM, effectX, effectZ}
-use Rattle.pauli.proofs.Lists.{set-back}
+use Rattle.pauli.specs.Effects.{fourier, effectF, effectS, effectA, effectM, effectX, effectZ, effectC, effectW}
+use Rattle.pauli.proofs.Lists.{set-back, two-back}
 use Rattle.pauli.proofs.Ranges.{pauli-path}
 
 -- such a Pauli, at one qudit
@@ -79,3 +79,17 @@ pub a-still : (d i j : ℕ) (p : Pauli) → Rests d i p → Rests d j p → (k :
 a-still d i j p r s k = pauli-path refl
     (v-back d j p s (none d j p s (omega (arith, s .v-none, mul-none k (r .v-none)))))
     (set-back (p .w) i (idle (omega (arith, r .low, r .w-none)) (neg-none (omega (arith, r .low)) (mul-none k (s .w-none)))))
+
+pub c-still : (d i j : ℕ) (p : Pauli) → Rests d i p → Rests d j p → (k : ℕ) → effectC d i j k p ≡ p
+c-still d i j p r s k = pauli-path
+    (plus-none d j p s (mul-none 2 (mul-none k (mul-none (getD (p .v) i 0) (s .v-none)))))
+    refl
+    (two-back (p .w) i j
+    (none d j p s (omega (arith, r .w-none, mul-none k (s .v-none))) ∙ sym (r .w-none))
+    (none d j p s (omega (arith, s .w-none, mul-none k (r .v-none))) ∙ sym (s .w-none)))
+
+pub w-still : (d i j : ℕ) (p : Pauli) → Rests d i p → Rests d j p → effectW i j p ≡ p
+w-still d i j p r s = pauli-path
+    refl
+    (two-back (p .v) i j (s .v-none ∙ sym (r .v-none)) (r .v-none ∙ sym (s .v-none)))
+    (two-back (p .w) i j (s .w-none ∙ sym (r .w-none)) (r .w-none ∙ sym (s .w-none)))

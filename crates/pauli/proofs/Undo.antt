@@ -15,9 +15,9 @@ use Rattle.arith.specs.Gcd.{gcd}
 use Rattle.arith.specs.Units.{inverseOf}
 use Rattle.arith.proofs.Units.{inverse-times, inverse-unit}
 use Rattle.pauli.specs.Pauli.{Pauli, InRange}
-use Rattle.pauli.proofs.Lists.{set-set-back}
+use Rattle.pauli.proofs.Lists.{set-set-back, stored-first, stored-second, two-back, two-again}
 use Rattle.pauli.proofs.Ranges.{in-v, pauli-path, in-w, v-less, w-less}
-use Rattle.pauli.specs.Effects.{fourier, effectF, effectS, effectA, effectM, effectX, effectZ}
+use Rattle.pauli.specs.Effects.{fourier, effectF, effectS, effectA, effectM, effectX, effectZ, effectC, exchanged, effectW}
 use Rattle.pauli.proofs.Steps.{fourier-step}
 
 -- x and then y added, where x + y is nothing
@@ -28,7 +28,7 @@ negs : (m x y : ℕ) → 0 < m → Cong m (x + y) 0 → Cong m (neg m x + neg m 
 negs m x y p h = ring₁-by m (x ∷ y ∷ []) p (times {z = neg m 1} (search quote) (search quote) (search quote) h) (search quote depth 30) (search quote) tt
 
 -- k times and then m times x, where k + m is a multiple of the modulus
-turn : (c d k m x : ℕ) → k + m ≡ c * d → Cong d (k * x + m * x) 0
+pub turn : (c d k m x : ℕ) → k + m ≡ c * d → Cong d (k * x + m * x) 0
 turn c d k m x e = cong-intro 0 (c * x) (omega (arith, ap (λ (t : ℕ). t * x) e))
 
 turn₂ : (d k m x : ℕ) → k + m ≡ d → Cong (2 * d) (2 * (k * x) + 2 * (m * x)) 0
@@ -41,11 +41,11 @@ unit-back d k u x p h = ring₁-by d (k ∷ u ∷ x ∷ []) p (times {z = x} (se
 f-twice-phase : (d h v w : ℕ) → 0 < d → Cong (2 * d) ((h + neg (2 * d) (2 * (v * w))) % (2 * d) + neg (2 * d) (2 * ((neg d w % d) * v))) h
 f-twice-phase d h v w p = ring₂ d (h ∷ v ∷ w ∷ []) p (search quote depth 30) (search quote) tt
 
-abbrev signs : ℕ → ℕ → Pauli → Pauli
+abbrev pub signs : ℕ → ℕ → Pauli → Pauli
 signs d i p = record { phase = p .phase; v = set (p .v) i (neg d (getD (p .v) i 0) % d); w = set (p .w) i (neg d (getD (p .w) i 0) % d) }
 
 module _ {d n : ℕ} (i : ℕ) (pos : 0 < d) (l : i < n) where
-  fourier-twice : {p : Pauli} → InRange d n p → fourier d i (fourier d i p) ≡ signs d i p
+  pub fourier-twice : {p : Pauli} → InRange d n p → fourier d i (fourier d i p) ≡ signs d i p
   fourier-twice {p} r =
       let a = getD-set-same (p .v) i (neg d (getD (p .w) i 0) % d) 0 (in-v r l) in
       let b = getD-set-same (p .w) i (getD (p .v) i 0) 0 (in-w r l) in
@@ -113,3 +113,24 @@ undone-a {d} {p = p} i j k pos li lj apart h r = pauli-path
     (rw (getD-set-other (p .w) i j ((getD (p .w) i 0 + neg d (k * getD (p .w) j 0)) % d) 0 (λ e. apart (sym e)))
     (entry-back (p .w) i _ (λ x. (x + neg d ((d - k) * getD (p .w) j 0)) % d) (in-w r li)
     (back _ _ (w-less r i) (negs d _ _ pos (turn 1 d k (d - k) (getD (p .w) j 0) (omega arith))))))
+
+-- two entries of a list that were set, with the next numbers put at the same places
+entries-back : (xs : List ℕ) {i j : ℕ} (a b : ℕ) {x y : ℕ} → i ≢ j → x ≡ getD xs i 0 → y ≡ getD xs j 0 → set (set (set (set xs i a) j b) i x) j y ≡ xs
+entries-back xs {i} {j} a b {x} {y} apart e f = two-again xs a b x y apart ∙ two-back xs i j e f
+
+pub undone-c : {d n : ℕ} {p : Pauli} (i j k : ℕ) → i < n → j < n → i ≢ j → k ≤ d → InRange d n p → effectC d i j (d - k) (effectC d i j k p) ≡ p
+undone-c {d} {p = p} i j k li lj apart h r =
+    let x = getD (p .v) i 0 in
+    let y = getD (p .v) j 0 in
+    pauli-path
+    (back _ _ (r .phase-below) (turn₂ d k (d - k) (x * y) (omega arith)))
+    refl
+    (entries-back (p .w) _ _ apart
+    (ap (λ (t : ℕ). (t + (d - k) * y) % d) (stored-first (p .w) _ _ apart (in-w r li)) ∙ back _ _ (w-less r i) (turn 1 d k (d - k) y (omega arith)))
+    (ap (λ (t : ℕ). (t + (d - k) * x) % d) (stored-second (p .w) _ _ apart (in-w r lj)) ∙ back _ _ (w-less r j) (turn 1 d k (d - k) x (omega arith))))
+
+pub undone-w : {d n : ℕ} {p : Pauli} (i j : ℕ) → i < n → j < n → i ≢ j → InRange d n p → effectW i j (effectW i j p) ≡ p
+undone-w {p = p} i j li lj apart r = pauli-path refl (twice (p .v) (in-v r li) (in-v r lj)) (twice (p .w) (in-w r li) (in-w r lj))
+  where
+    twice : (xs : List ℕ) → i < length xs → j < length xs → exchanged i j (exchanged i j xs) ≡ xs
+    twice xs h k = entries-back xs _ _ apart (stored-second xs _ _ apart k) (stored-first xs _ _ apart h)

@@ -1,5 +1,6 @@
--- The effect of each kind of gate row on a Pauli (document 01, "Gate rows"), a definition for each line of its table.
+-- The effect of each kind of gate row on a Pauli (document 01, "Gate rows", and for C and W document 02, P3), a definition for each line of the table.
 -- Power k, first qudit i, second qudit j, counted from 0 here. Unnamed numbers don't change; phases are reduced modulo 2·d, entries modulo d.
+use mathlib.Core.List.{List}
 use Prim.Native.Nat.{ℕ, zero, suc, _+_, _*_, _%_}
 use lib.ListN.{getD, set}
 use Rattle.arith.specs.Residues.{neg}
@@ -62,3 +63,19 @@ effectZ d i k p = record {
   v = p .v;
   w = p .w;
 }
+
+-- 7, C: wi + k·vj, wj + k·vi, δ + 2·k·vi·vj
+abbrev pub effectC : ℕ → ℕ → ℕ → ℕ → Pauli → Pauli
+effectC d i j k p = record {
+  phase = (p .phase + 2 * (k * (getD (p .v) i 0 * getD (p .v) j 0))) % (2 * d);
+  v = p .v;
+  w = set (set (p .w) i ((getD (p .w) i 0 + k * getD (p .v) j 0) % d)) j ((getD (p .w) j 0 + k * getD (p .v) i 0) % d);
+}
+
+-- entries i and j in each other's place
+abbrev pub exchanged : ℕ → ℕ → List ℕ → List ℕ
+exchanged i j xs = set (set xs i (getD xs j 0)) j (getD xs i 0)
+
+-- 8, W: exchanges both qudits' v and w
+abbrev pub effectW : ℕ → ℕ → Pauli → Pauli
+effectW i j p = record { phase = p .phase; v = exchanged i j (p .v); w = exchanged i j (p .w) }

@@ -1,5 +1,5 @@
-// The effect of each kind of gate row, with power k on qudit i, for A on i and j: methods that take the Pauli and hand on the new one.
-// Each contract holds for every n from i + 1 to 16 (for A from j + 1 too): the effect is the same however many places are in use.
+// The effect of each kind of gate row, with power k on qudit i, for A, C and W on i and j: methods that take the Pauli and hand on the new one.
+// Each contract holds for every n from i + 1 to 16 (on two qudits from j + 1 too): the effect is the same however many places are in use.
 use crate::Pauli;
 use crate::touched::Touched;
 use arith::residue::Phase;
@@ -15,7 +15,7 @@ ghost use Rattle.arith.specs.Refusals.{Dimension};
 ghost use Rattle.arith.specs.Units.{inverseOf};
 ghost use Rattle.pauli.specs.inner.View.{entries, view, WordTrue};
 ghost use Rattle.pauli.specs.inner.Touched.{viewTouched, touched, placed};
-ghost use Rattle.pauli.specs.Effects.{effectF, effectS, effectA, effectM, effectX, effectZ};
+ghost use Rattle.pauli.specs.Effects.{effectF, effectS, effectA, effectM, effectX, effectZ, effectC, effectW};
 
 // x at place i, and what stood there at any other place p.
 fn at_place(p: u16, i: u16, x: Residue, old: Residue) -> Residue
@@ -138,5 +138,26 @@ impl Pauli {
     {
         let t = self.touched(i, i).effect_z(k, d);
         self.placed(i, t.phase, t.vi, t.wi)
+    }
+    // C: wi + k·vj, wj + k·vi, δ + 2·k·vi·vj.
+    pub fn effect_c(self, i: u16, j: u16, k: Power, d: u16) -> Pauli
+        requires { ⌜ Dimension d × ((i < 16) × ((j < 16) × (i ≢ j))) ⌝ }
+        ensures { λ r. ⌜ ((n : ℕ) → i < n → j < n → n ≤ 16 → view n r ≡ effectC d i j (k .0) (view n self)) ⌝ }
+        ensures { λ r. ⌜ ((n : ℕ) → i < n → j < n → n ≤ 16 → WordTrue n self → WordTrue n r) ⌝ }
+    {
+        let t = self.touched(i, j).effect_c(k, d);
+        self.placed(i, t.phase, t.vi, t.wi)
+            .placed(j, t.phase, t.vj, t.wj)
+    }
+
+    // W: v and w of both qudits are exchanged.
+    pub fn effect_w(self, i: u16, j: u16) -> Pauli
+        requires { ⌜ (i < 16) × ((j < 16) × (i ≢ j)) ⌝ }
+        ensures { λ r. ⌜ ((n : ℕ) → i < n → j < n → n ≤ 16 → view n r ≡ effectW i j (view n self)) ⌝ }
+        ensures { λ r. ⌜ ((n : ℕ) → i < n → j < n → n ≤ 16 → WordTrue n self → WordTrue n r) ⌝ }
+    {
+        let t = self.touched(i, j).effect_w();
+        self.placed(i, t.phase, t.vi, t.wi)
+            .placed(j, t.phase, t.vj, t.wj)
     }
 }

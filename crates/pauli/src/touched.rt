@@ -9,7 +9,7 @@ ghost use lib.Dec.{eqb};
 ghost use Rattle.arith.specs.Refusals.{Dimension};
 ghost use Rattle.arith.specs.Units.{inverseOf};
 ghost use Rattle.pauli.specs.inner.Touched.{viewTouched, still, OnOne, OnTwo};
-ghost use Rattle.pauli.specs.Effects.{fourier, effectF, effectS, effectA, effectM, effectX, effectZ};
+ghost use Rattle.pauli.specs.Effects.{fourier, effectF, effectS, effectA, effectM, effectX, effectZ, effectC, effectW};
 
 pub struct Touched {
     pub phase: Phase,
@@ -130,6 +130,45 @@ impl Touched {
         let z = self.wi;
         let moved = x.scaled(k, d).doubled(d);
         on_one(phase.plus(moved, d), x, z)
+    }
+
+    // C: wi + k·vj, wj + k·vi, δ + 2·k·vi·vj.
+    pub fn effect_c(self, k: Power, d: u16) -> Touched
+        requires { ⌜ Dimension d ⌝ }
+        ensures { λ r. ⌜ OnTwo (λ i j p. effectC d i j (k .0) p) (viewTouched self) (viewTouched r) ⌝ }
+    {
+        let phase = self.phase;
+        let x = self.vi;
+        let z = self.wi;
+        let y = self.vj;
+        let u = self.wj;
+        let times_x = x.scaled(k, d);
+        let moved = times_x.times(y, d).doubled(d);
+        Touched {
+            phase: phase.plus(moved, d),
+            vi: x,
+            wi: z.plus(y.scaled(k, d), d),
+            vj: y,
+            wj: u.plus(times_x, d),
+        }
+    }
+
+    // W: vi and vj, and wi and wj, are exchanged.
+    pub fn effect_w(self) -> Touched
+        ensures { λ r. ⌜ OnTwo (λ i j p. effectW i j p) (viewTouched self) (viewTouched r) ⌝ }
+    {
+        let phase = self.phase;
+        let x = self.vi;
+        let z = self.wi;
+        let y = self.vj;
+        let u = self.wj;
+        Touched {
+            phase: phase,
+            vi: y,
+            wi: u,
+            vj: x,
+            wj: z,
+        }
     }
 
     // Whether no row changes them: v and w are 0 at its qudits, and the phase is below 2d, so that no row reduces it.

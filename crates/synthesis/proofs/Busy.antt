@@ -1,4 +1,4 @@
--- Weights of the reduction's undo rows: 1 for a row, 1 for an A row, 1 for an A row between two given qudits, 1 for a row that does nothing.
+-- Weights of the reduction's undo rows: 1 for a row, 1 for a row on two qudits, 1 for a row on two given qudits, 1 for C and W, 1 for a row that does nothing.
 use mathlib.Core.Bool.{Bool, cond}
 use mathlib.Core.Path.{_≡_, refl, ap}
 use mathlib.Core.List.{List, [], _∷_, map}
@@ -10,9 +10,9 @@ use lib.Dec.{eqb}
 use Rattle.arith.proofs.Cases.{eqb-case}
 use Rattle.arith.specs.Units.{inverseOf}
 use Rattle.arith.proofs.Units.{inverse-twice}
-use Rattle.gates.specs.Row.{Row, F, S, A, M, X, Z, Legal, AllLegal, none, more, undo}
+use Rattle.gates.specs.Row.{Row, F, S, A, M, X, Z, C, W, Legal, AllLegal, none, more, undo}
 use Rattle.synthesis.specs.inner.Reduce.{nearPower}
-use Rattle.synthesis.specs.Measures.{weigh, onA, both, Busy, AllBusy, nil, cons}
+use Rattle.synthesis.specs.Measures.{weigh, onPair, both, between, Busy, AllBusy, nil, cons}
 use Rattle.synthesis.proofs.Steps.{near-high, near-not}
 use Rattle.synthesis.proofs.Count.{Weights}
 
@@ -39,9 +39,9 @@ ones d p = record {
   of-z = λ i k ne. omega arith;
 }
 
--- A rows by their qudits, and no other row
-pub a-rows : (d : ℕ) (f a : ℕ → ℕ → ℕ) → 0 < d → ((i j : ℕ) → i < j → f i j ≤ a i j) → ((i j : ℕ) → i < j → f j i ≤ a i j) → Weights d (λ r. onA f (undo d r)) a 0
-a-rows d f a p forth back = record {
+-- A rows by their qudits, and no other row: C and W, whatever they weigh, are not put
+pub pair-rows : (d : ℕ) (f g a : ℕ → ℕ → ℕ) → 0 < d → ((i j : ℕ) → i < j → f i j ≤ a i j) → ((i j : ℕ) → i < j → f j i ≤ a i j) → Weights d (λ r. onPair f g (undo d r)) a 0
+pair-rows d f g a p forth back = record {
   large = p;
   of-f = λ i. omega arith;
   of-f3 = λ i. omega arith;
@@ -62,8 +62,8 @@ both-swap : (p q i j : ℕ) → both q p j i ≡ both p q i j
 both-swap p q i j = eqb-case (λ (b : Bool). cond {A = ℕ} b (cond (eqb i p) 1 0) 0 ≡ cond (eqb i p) (cond b 1 0) 0) j q
     (λ e. eqb-case (λ (b : Bool). cond {A = ℕ} b 1 0 ≡ cond b 1 0) i p (λ f. refl) (λ f. refl)) (λ ne. eqb-case (λ (b : Bool). 0 ≡ cond {A = ℕ} b 0 0) i p (λ f. refl) (λ f. refl))
 
-pub betweens : (d p q : ℕ) → 0 < d → p < q → Weights d (λ r. onA (λ i j. both p q i j + both q p i j) (undo d r)) (both p q) 0
-betweens d p q pos pq = a-rows d (λ i j. both p q i j + both q p i j) (both p q) pos forth back
+pub betweens : (d p q : ℕ) → 0 < d → p < q → Weights d (λ r. onPair (between p q) (between p q) (undo d r)) (both p q) 0
+betweens d p q pos pq = pair-rows d (between p q) (between p q) (both p q) pos forth back
   where
     forth : (i j : ℕ) → i < j → both p q i j + both q p i j ≤ both p q i j
     forth i j l = omega (arith, both-none q p i j (λ (e : i ≡ q) (f : j ≡ p). omega arith))
@@ -83,6 +83,8 @@ idle d (A i j k) = 0
 idle d (M i k) = is 1 k
 idle d (X i k) = 0
 idle d (Z i k) = 0
+idle d (C i j k) = 0
+idle d (W i j) = 0
 
 not-idle : (k m : ℕ) → k ≢ m → is m k ≤ 0
 not-idle k m ne = eqb-case (λ (b : Bool). cond {A = ℕ} b 1 0 ≤ 0) k m (λ e. absurd (ne e)) (λ o. omega arith)
@@ -116,6 +118,8 @@ busy-row d n (A i j k) l e = λ z. omega (arith, l .1)
 busy-row d n (M i k) l e = idle-not k 1 e
 busy-row d n (X i k) l e = λ z. omega (arith, l)
 busy-row d n (Z i k) l e = λ z. omega (arith, l)
+busy-row d n (C i j k) l e = λ z. omega (arith, l .1)
+busy-row d n (W i j) l e = tt
 
 pub all-busy : {d n : ℕ} {rows : List Row} → AllLegal d n rows → weigh (idle d) rows ≡ 0 → AllBusy d rows
 all-busy none e = nil

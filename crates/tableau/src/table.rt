@@ -17,7 +17,7 @@ ghost use Rattle.pauli.specs.inner.View.{view, WordTrue};
 ghost use Rattle.pauli.specs.inner.Touched.{viewTouched, touched, replaced};
 ghost use Rattle.gates.specs.Row.{apply};
 ghost use Rattle.gates.specs.Written.{meant, legalRow};
-ghost use Rattle.gates.specs.inner.View.{viewRow, InverseRight};
+ghost use Rattle.gates.specs.inner.View.{viewRow, InverseRight, otherOf};
 ghost use Rattle.tableau.specs.Tableau.{column, units};
 ghost use Rattle.tableau.specs.Bytes.{tableauBytes, decodeTableau};
 ghost use Rattle.tableau.specs.inner.View.{columnView, tableView, Shaped};
@@ -156,16 +156,15 @@ fn replace(c: &mut [u16; 33], i: usize, j: usize, t: Touched)
     c[17 + j] = u.value();
 }
 
-// A legal row put behind a column. Many columns have 0 at its qudits, and stay as they are.
-fn put_column(c: &mut [u16; 33], row: Ready, d: u16, n: usize)
+// A legal row put behind a column; j is its second qudit, or the first again. Many columns have 0 at its qudits, and stay as they are.
+fn put_column(c: &mut [u16; 33], row: Ready, j: usize, d: u16, n: usize)
     requires { ⌜ Dimension d × (n ≤ 16) ⌝ }
     requires { ⌜ (legalRow d n (viewRow (row .row)) ≡ true) × InverseRight d row ⌝ }
-    requires { ⌜ length (now c) ≡ 33 ⌝ }
+    requires { ⌜ (j ≡ otherOf (viewRow (row .row))) × (length (now c) ≡ 33) ⌝ }
     ensures { λ _. ⌜ (columnView n (now (c .exit)) ≡ apply d (meant (viewRow (row .row))) (columnView n (now (c .entry)))) × (length (now (c .exit)) ≡ 33) ⌝ }
 {
     let written = row.row;
     let i = written.first as usize - 1;
-    let j = written.other();
     let old = touched(c, i, j);
     if old.still(d) {
         return;
@@ -179,9 +178,10 @@ pub fn put_columns(t: &mut [[u16; 33]; 32], row: Row, d: u16, n: usize)
     requires { ⌜ (legalRow d n (viewRow row) ≡ true) × Shaped (now t) ⌝ }
     ensures { λ _. ⌜ (tableView n (now (t .exit)) ≡ map (apply d (meant (viewRow row))) (tableView n (now (t .entry)))) × Shaped (now (t .exit)) ⌝ }
 {
+    let second = row.other();
     let ready = row.ready(d);
     let m = 2 * n;
     for j in 0..m {
-        put_column(&mut t[j], ready, d, n);
+        put_column(&mut t[j], ready, second, d, n);
     }
 }

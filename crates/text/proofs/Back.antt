@@ -11,12 +11,12 @@ use borrow.Author.Tests.{eqb-true}
 use Rattle.arith.specs.Bytes.{tab, numberAt, bytesOf, front, numbersAt}
 use Rattle.arith.proofs.Bytes.{bytes-append, bytes-length, number-bytes, tab-ext, tab-list}
 use Rattle.gates.specs.Written.{WrittenRow, rowNumbers, rowAt}
-use Rattle.text.specs.Format.{File, tableauFile, listFile, concatenated, LaidOut}
+use Rattle.text.specs.Format.{File, tableauFile, listFile, partnerFile, concatenated, LaidOut}
 use Rattle.text.specs.Convert.{fullColumns}
 use Rattle.text.specs.inner.Reads.{fileNumbers, readingOf, Reads, ColumnsRead, RowsRead}
 use Rattle.text.specs.inner.Prints.{columnsAt, tableauFileOf, listFileOf}
 use Rattle.text.specs.declared.reading.Reading.{Reading}
-use Rattle.text.specs.declared.reading.Reading.the-variants.{NoFile, Tableau, Rows}
+use Rattle.text.specs.declared.reading.Reading.the-variants.{NoFile, Tableau, Rows, PartnerRows}
 use Rattle.text.proofs.Unique.{one-file}
 
 -- the answer is that of the one file that is laid out so
@@ -29,6 +29,9 @@ reads-one text before (Tableau d n lines full) out f h laid =
 reads-one text before (Rows d n lines) out f h laid =
     let e = one-file text (listFile d n (h .rows)) f (h .laid) laid in
     (ap (Rows d n) (h .counted) ∙ ap readingOf e, h .holds ∙ ap (λ (g : File). front (bytesOf (fileNumbers g)) before) e)
+reads-one text before (PartnerRows d n lines) out f h laid =
+    let e = one-file text (partnerFile d n (h .rows)) f (h .laid) laid in
+    (ap (PartnerRows d n) (h .counted) ∙ ap readingOf e, h .holds ∙ ap (λ (g : File). front (bytesOf (fileNumbers g)) before) e)
 
 -- ---- how many numbers there are
 and-left : (a b : Bool) → (a && b) ≡ true → a ≡ true
@@ -58,8 +61,8 @@ rows-length (r ∷ rs) = omega (arith, rows-length rs, length-append (rowNumbers
 front-room : (a before out : List ℕ) → out ≡ front a before → length out ≡ length before → length a ≤ length before
 front-room a before out e h = omega (arith, ap length e, h, length-append a (drop (length a) before), length-drop (length a) before)
 
-pub rows-room : (text before : List ℕ) (d n lines : ℕ) (out : List ℕ) → RowsRead text before d n lines out → length out ≡ length before → 8 * lines ≤ length out
-rows-room text before d n lines out r h =
+pub rows-room : (file : ℕ → ℕ → List WrittenRow → File) (text before : List ℕ) (d n lines : ℕ) (out : List ℕ) → RowsRead file text before d n lines out → length out ≡ length before → 8 * lines ≤ length out
+rows-room file text before d n lines out r h =
     let all : List ℕ = concatenated rowNumbers (r .rows) in
     omega (arith, h, front-room (bytesOf all) before out (r .holds) h, bytes-length all, rows-length (r .rows), r .counted)
 

@@ -7,7 +7,7 @@ use native.Mathlib.Omega.{arith}
 use lib.Dec.{ltb, eqb}
 use lib.ListN.{length, length-append}
 use borrow.Author.Tests.{ltb-true, ltb-false, lt-ltb, le-ltb, ne-eqb}
-use Rattle.text.specs.Format.{decimal, digits, letterOf, Fits}
+use Rattle.text.specs.Format.{decimal, digits, letterOf, Fits, KindFits}
 use Rattle.text.specs.inner.Scan.{kindOf, letterField, firstDigit, nextDigit, valueOf}
 use Rattle.text.specs.declared.reading.Field.{Field}
 use Rattle.text.specs.declared.reading.Field.the-variants.{Number, Whole}
@@ -101,24 +101,28 @@ next-digit v x h g =
     rw (le-ltb (48 + x) 48 (omega arith), le-ltb 57 (48 + x) (omega arith), e, le-ltb 65535 (10 * v + x) g)
 
 -- ---- letters
-pub by-kind : (P : ℕ → Type 0) → P 1 → P 2 → P 3 → P 4 → P 5 → P 6 → (k : ℕ) → 1 ≤ k → k ≤ 6 → P k
-by-kind P a b c d e f zero h g = absurd (omega arith)
-by-kind P a b c d e f (suc zero) h g = a
-by-kind P a b c d e f (suc (suc zero)) h g = b
-by-kind P a b c d e f (suc (suc (suc zero))) h g = c
-by-kind P a b c d e f (suc (suc (suc (suc zero)))) h g = d
-by-kind P a b c d e f (suc (suc (suc (suc (suc zero))))) h g = e
-by-kind P a b c d e f (suc (suc (suc (suc (suc (suc zero)))))) h g = f
-by-kind P a b c d e f (suc (suc (suc (suc (suc (suc (suc k))))))) h g = absurd (omega arith)
+pub by-kind : (P : ℕ → Type 0) → P 1 → P 2 → P 3 → P 4 → P 5 → P 6 → P 7 → P 8 → (k : ℕ) → KindFits k → P k
+by-kind P a b c d e f g h zero l = absurd (omega arith)
+by-kind P a b c d e f g h (suc zero) l = a
+by-kind P a b c d e f g h (suc (suc zero)) l = b
+by-kind P a b c d e f g h (suc (suc (suc zero))) l = c
+by-kind P a b c d e f g h (suc (suc (suc (suc zero)))) l = d
+by-kind P a b c d e f g h (suc (suc (suc (suc (suc zero))))) l = e
+by-kind P a b c d e f g h (suc (suc (suc (suc (suc (suc zero)))))) l = f
+by-kind P a b c d e f g h (suc (suc (suc (suc (suc (suc (suc zero))))))) l = g
+by-kind P a b c d e f g h (suc (suc (suc (suc (suc (suc (suc (suc zero)))))))) l = h
+by-kind P a b c d e f g h (suc (suc (suc (suc (suc (suc (suc (suc (suc k))))))))) l = absurd (omega arith)
 
 pub record Letter (k : ℕ) : Type 0 where
   pub back : letterField (letterOf k) ≡ Whole k
   pub no-comma : letterOf k ≡ 44 → ⊥
   pub no-end : letterOf k ≡ 10 → ⊥
 
-pub letter : (k : ℕ) → 1 ≤ k → k ≤ 6 → Letter k
+pub letter : (k : ℕ) → KindFits k → Letter k
 unfolding letterField letterOf kindOf
 letter = by-kind Letter
+    (record { back = refl; no-comma = λ e. omega arith; no-end = λ e. omega arith })
+    (record { back = refl; no-comma = λ e. omega arith; no-end = λ e. omega arith })
     (record { back = refl; no-comma = λ e. omega arith; no-end = λ e. omega arith })
     (record { back = refl; no-comma = λ e. omega arith; no-end = λ e. omega arith })
     (record { back = refl; no-comma = λ e. omega arith; no-end = λ e. omega arith })

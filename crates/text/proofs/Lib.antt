@@ -7,6 +7,9 @@ pub mod Writing
 pub mod Unique
 pub mod Back
 pub mod Lists
+pub mod PartnerRows
+pub mod PartnerLists
+pub mod Translate
 pub mod Tableaus
 pub mod Texts
 pub mod Examples

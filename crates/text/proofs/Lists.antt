@@ -18,18 +18,18 @@ use Rattle.arith.proofs.Passes.{room-passes}
 use Rattle.pauli.specs.Pauli.{Pauli}
 use Rattle.pauli.specs.Bytes.{numbersOf}
 use Rattle.pauli.proofs.Ranges.{entries-length}
-use Rattle.gates.specs.Written.{WrittenRow, meant, allLegalRows, listRows, rowNumbers, listNumbers, encodeRows}
-use Rattle.gates.proofs.Written.{list-encoded, all-legal-meant, rows-bytes}
+use Rattle.gates.specs.Written.{WrittenRow, meant, allLegalRows, listRows, rowNumbers, listNumbers}
+use Rattle.gates.proofs.Written.{all-legal-meant}
 use Rattle.tableau.specs.Tableau.{tableauOf, AllInRange, none, more, WellFormed}
 use Rattle.tableau.specs.Bytes.{tableauBytes, tableauNumbers, encodeTableau}
 use Rattle.tableau.specs.Calls.{tableauRefusal, tableauAnswer}
 use Rattle.tableau.proofs.Accepted.{tableau-accepted}
 use Rattle.tableau.proofs.Bytes.{tableau-small}
 use Rattle.tableau.proofs.Run.{tableau-formed}
-use Rattle.text.specs.Format.{tableauFile, concatenated, printFile, printRefusal}
+use Rattle.text.specs.Format.{tableauFile, listFile, concatenated, printFile, printRefusal}
 use Rattle.text.specs.inner.Prints.{Prints, tableauFileOf}
 use Rattle.text.specs.Convert.{fullColumns, rowCountOf, listRefusal, tableauPrint}
-use Rattle.text.specs.inner.FromBytes.{outcomeOf, ListConverts}
+use Rattle.text.specs.inner.FromBytes.{outcomeOf, RowsConvert}
 use Rattle.text.specs.declared.Outcome.{Outcome}
 use Rattle.text.specs.declared.Outcome.the-variants.{Done, Refused}
 use Rattle.text.proofs.Back.{tableau-back}
@@ -77,17 +77,18 @@ unfolding concatenated listNumbers
 rows-concatenated [] = refl
 rows-concatenated (w ∷ ws) = ap (λ (l : List ℕ). rowNumbers w ++ l) (rows-concatenated ws)
 
-refusal-same : (d n : ℕ) (list : List ℕ) (rows : List WrittenRow) (room : ℕ) → list ≡ encodeRows rows → 2112 ≤ room → tableauRefusal d n list room ≡ listRefusal d n rows
-refusal-same d n list rows room e h = orElse-past (givenOf d n) (λ g. ap₂ orElse sized (ap₂ orElse (roomy (given-good g .width .n-high)) rowed))
-  where
-    sized : listSizeOf (length list) ≡ rowCountOf (length rows)
-    sized = ap listSizeOf (ap length e ∙ rows-bytes rows) ∙ list-size (length rows)
+pub rows-size : (list : List ℕ) (rows : List WrittenRow) → length list ≡ 8 * length rows → listSizeOf (length list) ≡ rowCountOf (length rows)
+rows-size list rows l = ap listSizeOf l ∙ list-size (length rows)
 
+refusal-same : (d n : ℕ) (list : List ℕ) (rows : List WrittenRow) (room : ℕ) → length list ≡ 8 * length rows → listRows list ≡ rows → 2112 ≤ room
+    → tableauRefusal d n list room ≡ listRefusal d n rows
+refusal-same d n list rows room l e h = orElse-past (givenOf d n) (λ g. ap₂ orElse (rows-size list rows l) (ap₂ orElse (roomy (given-good g .width .n-high)) rowed))
+  where
     roomy : n ≤ 16 → roomOf (tableauBytes n) room ≡ 0
     roomy l = room-passes {want = tableauBytes n} (omega (arith, tableau-small n l))
 
     rowed : rowOf (allLegalRows d n (listRows list)) ≡ rowOf (allLegalRows d n rows)
-    rowed = ap (λ (l : List WrittenRow). rowOf (allLegalRows d n l)) (ap listRows e ∙ list-encoded rows)
+    rowed = ap (λ (l : List WrittenRow). rowOf (allLegalRows d n l)) e
 
 -- ---- the tableau's bytes are its columns' numbers
 columns-concatenated : (t : List Pauli) → concatenated (λ (c : List ℕ). c) (map numbersOf t) ≡ tableauNumbers t
@@ -109,9 +110,9 @@ columns-printed {d} {n} {t} rest f =
 -- ---- what is printed, where the call's answer is k
 module _ (d n : ℕ) (list old new : List ℕ) (k : ℕ) (w : Written (tableauRefusal d n list (length old)) (tableauAnswer d n list) old new k) where
   -- a refusal
-  pub list-refused : {output : List ℕ} → 2112 ≤ length old → k ≢ 0 → output ≡ printRefusal k → ListConverts d n list output
-  list-refused h z p = λ rows e.
-      let same : k ≡ listRefusal d n rows = w .number ∙ refusal-same d n list rows (length old) e h in
+  pub list-refused : {output : List ℕ} → 2112 ≤ length old → k ≢ 0 → output ≡ printRefusal k → RowsConvert listFile d n list output
+  list-refused h z p = λ rows l e.
+      let same : k ≡ listRefusal d n rows = w .number ∙ refusal-same d n list rows (length old) l e h in
       record { refused = λ r. p ∙ ap printRefusal same; accepted = λ r. absurd (z (same ∙ r)) }
 
   none-refused : k ≡ 0 → tableauRefusal d n list (length old) ≡ 0
@@ -125,12 +126,11 @@ module _ (d n : ℕ) (list old new : List ℕ) (k : ℕ) (w : Written (tableauRe
   written z = rw (none-refused z) at (w .out)
 
   -- the tableau
-  pub list-printed : {output : List ℕ} → 2112 ≤ length old → k ≡ 0 → output ≡ printFile (tableauFileOf d n new) → ListConverts d n list output
-  list-printed {output} h z p = λ rows e. record { refused = λ r. absurd (r (sym (refusal-same d n list rows (length old) e h) ∙ none-refused z)); accepted = λ r. prints rows e }
+  pub list-printed : {output : List ℕ} → 2112 ≤ length old → k ≡ 0 → output ≡ printFile (tableauFileOf d n new) → RowsConvert listFile d n list output
+  list-printed {output} h z p = λ rows l e. record { refused = λ r. absurd (r (sym (refusal-same d n list rows (length old) l e h) ∙ none-refused z)); accepted = λ r. prints rows e }
     where
-      prints : (rows : List WrittenRow) → list ≡ encodeRows rows → output ≡ tableauPrint d n rows
-      prints rows e =
+      prints : (rows : List WrittenRow) → listRows list ≡ rows → output ≡ tableauPrint d n rows
+      prints rows same =
           let a = tableau-accepted list (length old) (none-refused z) in
-          let same : listRows list ≡ rows = ap listRows e ∙ list-encoded rows in
           let formed = tableau-formed (omega (arith, a .given .dimension)) (all-legal-meant d n (listRows list) (a .legal)) in
           p ∙ ap printFile (ap (tableauFileOf d n) (written z) ∙ columns-printed (drop (length (tableauAnswer d n list)) old) formed ∙ ap (λ (l : List WrittenRow). tableauFile d n (map numbersOf (tableauOf d n (map meant l)))) same)

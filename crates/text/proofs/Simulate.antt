@@ -158,7 +158,7 @@ row-scanned d n l c e c' r out u hc fits =
     let o2 : List ℕ = sets o1 (2 * (c + 1)) (bytesOf (a ∷ [])) in
     let o3 : List ℕ = sets o2 (2 * (c + 1 + 1)) (bytesOf (b ∷ [])) in
     let qc : c' ≡ c + 1 + 1 + 1 + 1 = omega arith in
-    letter-comma k (st GateRow d n l 0 c e) out (line (digits a ∷ digits b ∷ digits p ∷ []) ++ u) refl (letter k (fits .0 .0) (fits .0 .1))
+    letter-comma k (st GateRow d n l 0 c e) out (line (digits a ∷ digits b ∷ digits p ∷ []) ++ u) refl (letter k (fits .0))
     ∙ line-comma a (st GateRow d n l 1 (c + 1) e) o1 (line (digits b ∷ digits p ∷ [])) u refl (fits .1 .0)
     ∙ line-comma b (st GateRow d n l 2 (c + 1 + 1) e) o2 (line (digits p ∷ [])) u refl (fits .1 .1 .0)
     ∙ line-end p (st GateRow d n l 3 (c + 1 + 1 + 1) e) o3 u refl (fits .1 .1 .1)

@@ -2,7 +2,7 @@
 -- the state speaks of (`Base`), with the field's own bytes after it (`Holds`). Assumes nothing.
 use mathlib.Core.Path.{_≡_, refl, sym, ap, ap₂, _∙_}
 use mathlib.Core.Bool.{Bool, true, false, cond}
-use mathlib.Core.Logic.{_⊎_, inl, inr}
+use mathlib.Core.Logic.{_⊎_, inl, inr, _≢_}
 use mathlib.Core.List.{List, [], _∷_, _++_, append-assoc, append-nil}
 use Prim.Native.Nat.{ℕ, _+_, _*_, _-_, _≤_, _<_}
 use native.Mathlib.Omega.{arith}
@@ -10,7 +10,7 @@ use lib.Dec.{ltb, eqb}
 use lib.ListN.{length, length-append}
 use borrow.Author.Tests.{ltb-false, eqb-true, eqb-false, ne-eqb}
 use Rattle.gates.specs.Written.{WrittenRow}
-use Rattle.text.specs.Format.{digits, line, letterOf, File, tableauFile, listFile, header, rowLine, columnLine, concatenated, Every, Fits, ColumnFits, RowFits, FileFits, printFile}
+use Rattle.text.specs.Format.{digits, line, letterOf, File, tableauFile, listFile, header, rowLine, columnLine, concatenated, Every, Fits, KindFits, ColumnFits, RowFits, FileFits, printFile}
 use Rattle.text.specs.inner.Reads.{answerAt, answerOf}
 use Rattle.text.specs.declared.reading.Reading.the-variants.{NoFile}
 use Rattle.text.specs.inner.Scan.{kindOf, letterField, firstDigit, nextDigit, grownOf, valueOf, inHead, letterDue, afterLine, brokenOf, grow, commaOf, headComma, bodyComma, lineOf, headLine, bodyLine, endedOf, afterByte, outAfterByte, scanned, openingOf, startOf}
@@ -28,13 +28,13 @@ use Rattle.text.proofs.Digits.{digits-low, digits-more}
 abbrev pub Holds : Bool → Field → List ℕ → Type 0
 Holds due Empty w = w ≡ []
 Holds due (Number x) w = ((due ≡ false) × ((0 < x) × Fits x)) × (w ≡ digits x)
-Holds true (Whole k) w = ((1 ≤ k) × (k ≤ 6)) × (w ≡ letterOf k ∷ [])
+Holds true (Whole k) w = KindFits k × (w ≡ letterOf k ∷ [])
 Holds false (Whole x) w = (x ≡ 0) × (w ≡ digits x)
 Holds due Bad w = Unit {0}
 
 -- what a field that is ended holds
 abbrev pub Word : Bool → ℕ → List ℕ → Type 0
-Word true k w = ((1 ≤ k) × (k ≤ 6)) × (w ≡ letterOf k ∷ [])
+Word true k w = KindFits k × (w ≡ letterOf k ∷ [])
 Word false x w = Fits x × (w ≡ digits x)
 
 -- a test that is passed, or not
@@ -43,7 +43,7 @@ test P true a b = a refl
 test P false a b = b refl
 
 -- a letter that has a kind is that kind's letter
-letter-or : (b c k rest : ℕ) → (1 ≤ k) × (k ≤ 6) → c ≡ letterOf k → ((rest ≡ 0 → ⊥) → Word true rest (b ∷ []))
+letter-or : (b c k rest : ℕ) → KindFits k → c ≡ letterOf k → ((rest ≡ 0 → ⊥) → Word true rest (b ∷ []))
     → (cond (eqb b c) k rest ≡ 0 → ⊥) → Word true (cond (eqb b c) k rest) (b ∷ [])
 letter-or b c k rest r l next =
     test (λ (t : Bool). (cond t k rest ≡ 0 → ⊥) → Word true (cond t k rest) (b ∷ [])) (eqb b c)
@@ -57,7 +57,9 @@ letter-back b =
     (letter-or b 65 3 _ (omega arith) refl
     (letter-or b 77 4 _ (omega arith) refl
     (letter-or b 88 5 _ (omega arith) refl
-    (letter-or b 90 6 0 (omega arith) refl (λ g. absurd (g refl)))))))
+    (letter-or b 90 6 _ (omega arith) refl
+    (letter-or b 67 7 _ (omega arith) refl
+    (letter-or b 87 8 0 (omega arith) refl (λ g. absurd (g refl)))))))))
 
 grown-letter : (b : ℕ) → Holds true (letterField b) (b ∷ [])
 unfolding letterField
@@ -151,11 +153,11 @@ pub data Base : Form → ℕ → ℕ → ℕ → List ℕ → Type 0 where
   column : {p d n : ℕ} {t : List ℕ} (cs : List (List ℕ)) (xs : List ℕ) → (Fits d × Fits n) × Every ColumnFits cs → Every Fits xs
       → p ≡ length xs → t ≡ (header 84 d n ++ concatenated columnLine cs) ++ commas xs → Base Column p d n t
   row-0 : {d n : ℕ} {t : List ℕ} (rs : List WrittenRow) → (Fits d × Fits n) × Every RowFits rs → t ≡ header 76 d n ++ concatenated rowLine rs → Base GateRow 0 d n t
-  row-1 : {d n : ℕ} {t : List ℕ} (rs : List WrittenRow) (k : ℕ) → (Fits d × Fits n) × Every RowFits rs → (1 ≤ k) × (k ≤ 6)
+  row-1 : {d n : ℕ} {t : List ℕ} (rs : List WrittenRow) (k : ℕ) → (Fits d × Fits n) × Every RowFits rs → KindFits k
       → t ≡ (header 76 d n ++ concatenated rowLine rs) ++ (letterOf k ∷ 44 ∷ []) → Base GateRow 1 d n t
-  row-2 : {d n : ℕ} {t : List ℕ} (rs : List WrittenRow) (k a : ℕ) → (Fits d × Fits n) × Every RowFits rs → (1 ≤ k) × (k ≤ 6) → Fits a
+  row-2 : {d n : ℕ} {t : List ℕ} (rs : List WrittenRow) (k a : ℕ) → (Fits d × Fits n) × Every RowFits rs → KindFits k → Fits a
       → t ≡ (header 76 d n ++ concatenated rowLine rs) ++ (letterOf k ∷ 44 ∷ (digits a ++ (44 ∷ []))) → Base GateRow 2 d n t
-  row-3 : {d n : ℕ} {t : List ℕ} (rs : List WrittenRow) (k a b : ℕ) → (Fits d × Fits n) × Every RowFits rs → (1 ≤ k) × (k ≤ 6) → Fits a → Fits b
+  row-3 : {d n : ℕ} {t : List ℕ} (rs : List WrittenRow) (k a b : ℕ) → (Fits d × Fits n) × Every RowFits rs → KindFits k → Fits a → Fits b
       → t ≡ (header 76 d n ++ concatenated rowLine rs) ++ (letterOf k ∷ 44 ∷ (digits a ++ (44 ∷ (digits b ++ (44 ∷ []))))) → Base GateRow 3 d n t
   -- a line with too many fields, which its line feed will break
   table-over : {p d n : ℕ} {t : List ℕ} → 1 < p → Base TableHead p d n t
@@ -304,16 +306,17 @@ unfolding scanned
 scanned-known [] s out text k = rw append-nil k
 scanned-known (b ∷ u) s out text k = rw append-assoc at (scanned-known u (afterByte s b) (outAfterByte s b out) (text ++ (b ∷ [])) (byte-known s text b k))
 
-pub opening-known : (a b : ℕ) → Known (startOf (openingOf a b)) (a ∷ b ∷ [])
+-- the opening of a text whose first byte isn't G (71)
+pub opening-known : (a b : ℕ) → a ≢ 71 → Known (startOf (openingOf a b)) (a ∷ b ∷ [])
 unfolding openingOf
-opening-known a b =
-    test (λ (t : Bool). Known (startOf (cond t (cond (eqb a 84) TableHead (cond (eqb a 76) ListHead Broken)) Broken)) (a ∷ b ∷ [])) (eqb b 44)
+opening-known a b ne = rw (ne-eqb a 71 ne)
+    (test (λ (t : Bool). Known (startOf (cond t (cond (eqb a 84) TableHead (cond (eqb a 76) ListHead Broken)) Broken)) (a ∷ b ∷ [])) (eqb b 44)
     (λ e. test (λ (t : Bool). Known (startOf (cond t TableHead (cond (eqb a 76) ListHead Broken))) (a ∷ b ∷ [])) (eqb a 84)
     (λ z. fresh (startOf TableHead) (84 ∷ 44 ∷ []) (a ∷ b ∷ []) refl table-d (ap₂ (λ (x y : ℕ). x ∷ y ∷ []) (eqb-true a 84 z) (eqb-true b 44 e)))
     (λ z. test (λ (t : Bool). Known (startOf (cond t ListHead Broken)) (a ∷ b ∷ [])) (eqb a 76)
     (λ y. fresh (startOf ListHead) (76 ∷ 44 ∷ []) (a ∷ b ∷ []) refl list-d (ap₂ (λ (x y : ℕ). x ∷ y ∷ []) (eqb-true a 76 y) (eqb-true b 44 e)))
     (λ y. any)))
-    (λ e. any)
+    (λ e. any))
   where
     any : Known (startOf Broken) (a ∷ b ∷ [])
     any = fresh (startOf Broken) (a ∷ b ∷ []) (a ∷ b ∷ []) refl lost refl

@@ -20,7 +20,7 @@ use Rattle.arith.proofs.Refusals.{Given, good, stop, not-zero, orElse-none, orE
 use Rattle.arith.proofs.Passes.{size-passes, room-passes}
 use Rattle.pauli.specs.Pauli.{Pauli}
 use Rattle.pauli.specs.Bytes.{decodeAt}
-use Rattle.gates.specs.Row.{Row, F, S, A, M, X, Z, Legal}
+use Rattle.gates.specs.Row.{Row, F, S, A, M, X, Z, C, W, Legal}
 use Rattle.gates.specs.Written.{WrittenRow, written, meant, legalRow, allRows, allLegalRows, rowAt, listRows}
 use Rattle.gates.proofs.Written.{written-meant, legal-meant}
 use Rattle.tableau.specs.Bytes.{tableauBytes, columnAt, decodeTableau}
@@ -115,6 +115,8 @@ legal-fits d n w r hd hn e l = rw e (fits r l)
     fits (M i k) l = omega (arith, l .1)
     fits (X i k) l = omega (arith, l)
     fits (Z i k) l = omega (arith, l)
+    fits (C i j k) l = omega (arith, l .0, l .1)
+    fits (W i j) l = omega (arith, l)
 
 rows-fit : (d n : ℕ) (rows : List WrittenRow) → d ≤ 1024 → n ≤ 16 → allLegalRows d n rows ≡ true → Every RowFits rows
 unfolding allRows Every

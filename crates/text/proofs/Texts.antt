@@ -9,17 +9,17 @@ use lib.Seq.{take-at}
 use Rattle.arith.specs.Refusals.{refusalNumber}
 use Rattle.arith.specs.declared.checks.Refusal.the-variants.{Text}
 use Rattle.arith.specs.Bytes.{bytesOf}
-use Rattle.gates.specs.Written.{WrittenRow, rowNumbers, encodeRows}
-use Rattle.text.specs.Format.{File, tableauFile, listFile, concatenated, printRefusal, LaidOut}
+use Rattle.gates.specs.Written.{WrittenRow, rowNumbers, listRows, encodeRows}
+use Rattle.text.specs.Format.{File, tableauFile, listFile, partnerFile, concatenated, printRefusal, LaidOut}
 use Rattle.text.specs.inner.Reads.{Reads, ColumnsRead, RowsRead}
 use Rattle.text.specs.Convert.{PrintsFor, Converts, InputFits, ConvertsInput}
-use Rattle.text.specs.inner.FromBytes.{ListConverts, ColumnsConvert}
+use Rattle.text.specs.inner.FromBytes.{RowsConvert, ColumnsConvert}
 use Rattle.text.specs.declared.Input.{Input}
 use Rattle.text.specs.declared.Input.the-variants.{Complete, Incomplete}
 use Rattle.text.specs.declared.reading.Reading.{Reading}
-use Rattle.text.specs.declared.reading.Reading.the-variants.{NoFile, Tableau, Rows}
+use Rattle.text.specs.declared.reading.Reading.the-variants.{NoFile, Tableau, Rows, PartnerRows}
 use Rattle.text.proofs.Back.{rows-room, columns-room}
-use Rattle.gates.proofs.Written.{rows-bytes}
+use Rattle.gates.proofs.Written.{rows-bytes, list-encoded}
 use Rattle.text.proofs.Lists.{rows-concatenated}
 use Rattle.text.proofs.Unique.{one-file}
 
@@ -31,25 +31,30 @@ converts-none h p = record { file = λ f laid. absurd (h f laid); none = λ no. 
 converts-file : (text output : List ℕ) (f : File) → LaidOut text f → PrintsFor f output → Converts text output
 converts-file text output f laid p = record { file = λ g other. subst (λ (x : File). PrintsFor x output) (one-file text f g laid other) p; none = λ no. absurd (no f laid) }
 
+-- the rows of an L file or of a G file are at the buffer's front
+module _ (file : ℕ → ℕ → List WrittenRow → File) (text before : List ℕ) {d n lines : ℕ} (buffer : List ℕ) (read : RowsRead file text before d n lines buffer) where
+  pub rows-there : length buffer ≡ length before → 8 * lines ≤ length buffer
+  rows-there l = rows-room file text before d n lines buffer read l
+
+  pub converts-rows : (output : List ℕ) → RowsConvert file d n (take (8 * lines) buffer) output → Converts text output
+  converts-rows output p =
+      let rows : List WrittenRow = read .rows in
+      let b : List ℕ = bytesOf (concatenated rowNumbers rows) in
+      let same : b ≡ encodeRows rows = ap bytesOf (rows-concatenated rows) in
+      let l : length b ≡ 8 * lines = omega (arith, ap length same, rows-bytes rows, read .counted) in
+      let at : take (8 * lines) buffer ≡ encodeRows rows = ap (take (8 * lines)) (read .holds) ∙ take-at b (drop (length b) before) (8 * lines) l ∙ same in
+      converts-file text output (file d n rows) (read .laid) (p rows (ap length at ∙ rows-bytes rows) (ap listRows at ∙ list-encoded rows))
+
 module _ (text before : List ℕ) (r : Reading) (buffer : List ℕ) (h : Reads text before r buffer) where
   pub reads-none : r ≡ NoFile → (f : File) → LaidOut text f → ⊥
   reads-none e = rw e at h
 
-  -- an L file
-  module _ {d n lines : ℕ} (e : r ≡ Rows d n lines) where
-    read-rows : RowsRead text before d n lines buffer
-    read-rows = rw e at h
+  -- an L file, and a G file
+  pub read-rows : {d n lines : ℕ} → r ≡ Rows d n lines → RowsRead listFile text before d n lines buffer
+  read-rows e = rw e at h
 
-    pub rows-there : length buffer ≡ length before → 8 * lines ≤ length buffer
-    rows-there l = rows-room text before d n lines buffer read-rows l
-
-    pub converts-rows : (output : List ℕ) → ListConverts d n (take (8 * lines) buffer) output → Converts text output
-    converts-rows output p =
-        let rows : List WrittenRow = read-rows .rows in
-        let b : List ℕ = bytesOf (concatenated rowNumbers rows) in
-        let same : b ≡ encodeRows rows = ap bytesOf (rows-concatenated rows) in
-        let l : length b ≡ 8 * lines = omega (arith, ap length same, rows-bytes rows, read-rows .counted) in
-        converts-file text output (listFile d n rows) (read-rows .laid) (p rows (ap (take (8 * lines)) (read-rows .holds) ∙ take-at b (drop (length b) before) (8 * lines) l ∙ same))
+  pub read-partner : {d n lines : ℕ} → r ≡ PartnerRows d n lines → RowsRead partnerFile text before d n lines buffer
+  read-partner e = rw e at h
 
   -- a T file
   module _ {d n lines : ℕ} {full : Bool} (e : r ≡ Tableau d n lines full) where

@@ -8,7 +8,7 @@ use lib.Dec.{ltb}
 use lib.ListN.{length, length-append}
 use borrow.Author.Tests.{ltb-true, ltb-false}
 use Rattle.gates.specs.Written.{WrittenRow}
-use Rattle.text.specs.Format.{decimal, digits, line, letterOf, File, tableauFile, listFile, rowLine, columnLine, concatenated, Every, ColumnFits, RowFits, FileFits, printFile, printRefusal, LaidOut}
+use Rattle.text.specs.Format.{decimal, digits, line, letterOf, File, tableauFile, listFile, partnerFile, rowLine, columnLine, concatenated, Every, ColumnFits, RowFits, FileFits, printFile, printRefusal, LaidOut}
 use Rattle.text.specs.inner.Scan.{letterField}
 use Rattle.text.specs.declared.reading.Field.the-variants.{Whole}
 use Rattle.text.proofs.Digits.{decimal-low, decimal-high, Letter, letter}
@@ -133,7 +133,7 @@ unfolding line
 row-unique r s u z f g e =
     let a : letterOf (r .kind) ≡ letterOf (s .kind) = cc in
     let b : columnLine (r .first ∷ r .second ∷ r .power ∷ []) ++ u ≡ columnLine (s .first ∷ s .second ∷ s .power ∷ []) ++ z = cc in
-    let k = letter-unique (r .kind) (s .kind) (letter (r .kind) (f .0 .0) (f .0 .1)) (letter (s .kind) (g .0 .0) (g .0 .1)) a in
+    let k = letter-unique (r .kind) (s .kind) (letter (r .kind) (f .0)) (letter (s .kind) (g .0)) a in
     let p = line-unique (r .first) (r .second ∷ r .power ∷ []) (s .first) (s .second ∷ s .power ∷ []) u z b in
     (same k (p .0), p .1)
   where
@@ -161,16 +161,26 @@ head-unique c d n e m u z q =
     let r : d ∷ n ∷ [] ≡ e ∷ m ∷ [] = p .0 in
     ((cc), ((cc), p .1))
 
+-- two files of rows under one letter
+rows-same : (c d n e m : ℕ) (rs ss : List WrittenRow) → Every RowFits rs → Every RowFits ss
+    → c ∷ 44 ∷ (columnLine (d ∷ n ∷ []) ++ concatenated rowLine rs) ≡ c ∷ 44 ∷ (columnLine (e ∷ m ∷ []) ++ concatenated rowLine ss) → (d ≡ e) × ((n ≡ m) × (rs ≡ ss))
+rows-same c d n e m rs ss f g q =
+    let p = head-unique c d n e m (concatenated rowLine rs) (concatenated rowLine ss) q in
+    (p .0, (p .1 .0, rows-unique rs ss f g (p .1 .1)))
+
 pub print-unique : (f g : File) → FileFits f → FileFits g → printFile f ≡ printFile g → f ≡ g
 unfolding line
 print-unique (tableauFile d n cs) (tableauFile e m es) f g q =
     let p = head-unique 84 d n e m (concatenated columnLine cs) (concatenated columnLine es) q in
     let a = p .0 in let b = p .1 .0 in let c = columns-unique cs es (f .1) (g .1) (p .1 .1) in cc
 print-unique (tableauFile d n cs) (listFile e m ss) f g q = absurd (let z : _≡_ {A = ℕ} 84 76 = cc in omega arith)
+print-unique (tableauFile d n cs) (partnerFile e m ss) f g q = absurd (let z : _≡_ {A = ℕ} 84 71 = cc in omega arith)
 print-unique (listFile d n rs) (tableauFile e m es) f g q = absurd (let z : _≡_ {A = ℕ} 76 84 = cc in omega arith)
-print-unique (listFile d n rs) (listFile e m ss) f g q =
-    let p = head-unique 76 d n e m (concatenated rowLine rs) (concatenated rowLine ss) q in
-    let a = p .0 in let b = p .1 .0 in let c = rows-unique rs ss (f .1) (g .1) (p .1 .1) in cc
+print-unique (listFile d n rs) (listFile e m ss) f g q = let p = rows-same 76 d n e m rs ss (f .1) (g .1) q in let a = p .0 in let b = p .1 .0 in let c = p .1 .1 in cc
+print-unique (listFile d n rs) (partnerFile e m ss) f g q = absurd (let z : _≡_ {A = ℕ} 76 71 = cc in omega arith)
+print-unique (partnerFile d n rs) (tableauFile e m es) f g q = absurd (let z : _≡_ {A = ℕ} 71 84 = cc in omega arith)
+print-unique (partnerFile d n rs) (listFile e m ss) f g q = absurd (let z : _≡_ {A = ℕ} 71 76 = cc in omega arith)
+print-unique (partnerFile d n rs) (partnerFile e m ss) f g q = let p = rows-same 71 d n e m rs ss (f .1) (g .1) q in let a = p .0 in let b = p .1 .0 in let c = p .1 .1 in cc
 
 -- a text has one file at most
 pub one-file : (text : List ℕ) (f g : File) → LaidOut text f → LaidOut text g → f ≡ g

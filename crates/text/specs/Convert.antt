@@ -1,4 +1,4 @@
--- What the text program prints for the text that it reads (document 01, "Text program").
+-- What the text program prints for the text that it reads (document 01, "Text program"; document 02, P3).
 use mathlib.Core.Path.{_≡_}
 use mathlib.Core.Logic.{_↔_, _⊎_, _≢_}
 use mathlib.Core.Bool.{Bool, true, _&&_}
@@ -11,12 +11,13 @@ use Rattle.arith.specs.Refusals.{refusalNumber, unlessHolds, orElse, givenOf, s
 use Rattle.pauli.specs.Pauli.{Pauli, InRange, phaseOnly}
 use Rattle.pauli.specs.Bytes.{numbersOf}
 use Rattle.gates.specs.Row.{run}
-use Rattle.gates.specs.Written.{WrittenRow, meant, allLegalRows}
+use Rattle.gates.specs.Written.{WrittenRow, meant, allRows, allLegalRows}
 use Rattle.tableau.specs.Tableau.{tableauOf, image}
 use Rattle.tableau.specs.Range.{tableauRangeOf}
 use Rattle.tableau.specs.Soundness.{soundnessOf}
 use Rattle.synthesis.specs.Demand3.{Realises, Realisable}
-use Rattle.text.specs.Format.{File, tableauFile, listFile, printFile, printRefusal, LaidOut}
+use Rattle.text.specs.Format.{File, tableauFile, listFile, partnerFile, printFile, printRefusal, LaidOut}
+use Rattle.text.specs.Partner.{legalPartner, translated}
 use Rattle.text.specs.declared.Input.{Input}
 use Rattle.text.specs.declared.Input.the-variants.{Complete, Incomplete}
 
@@ -37,6 +38,16 @@ tableauPrint d n rows = printFile (tableauFile d n (map numbersOf (tableauOf d n
 pub record PrintsForRows (d n : ℕ) (rows : List WrittenRow) (output : List ℕ) : Type 0 where
   pub refused : listRefusal d n rows ≢ 0 → output ≡ printRefusal (listRefusal d n rows)
   pub accepted : listRefusal d n rows ≡ 0 → output ≡ tableauPrint d n rows
+
+-- ---- a G file: a partner's list (document 02, P3)
+-- 1, 2, 3, 6, of the rows as they are written
+abbrev pub partnerRefusal : ℕ → ℕ → List WrittenRow → ℕ
+partnerRefusal d n rows = orElse (givenOf d n) (orElse (rowCountOf (length rows)) (rowOf (allRows (legalPartner d n) rows)))
+
+-- what is printed for a G file: a refusal, or the tableau in document 01's convention
+pub record PrintsForPartner (d n : ℕ) (rows : List WrittenRow) (output : List ℕ) : Type 0 where
+  pub refused : partnerRefusal d n rows ≢ 0 → output ≡ printRefusal (partnerRefusal d n rows)
+  pub accepted : partnerRefusal d n rows ≡ 0 → output ≡ tableauPrint d n (map (translated d) rows)
 
 -- ---- a T file
 -- the Pauli of a column's numbers: phase, v's, w's
@@ -84,6 +95,7 @@ pub record PrintsForColumns (d n : ℕ) (columns : List (List ℕ)) (output : Li
 -- what it prints for a file
 abbrev pub PrintsFor : File → List ℕ → Type 0
 PrintsFor (listFile d n rows) output = PrintsForRows d n rows output
+PrintsFor (partnerFile d n rows) output = PrintsForPartner d n rows output
 PrintsFor (tableauFile d n columns) output = PrintsForColumns d n columns output
 
 -- for the file that the text holds, and 9 for a text that holds none (a text longer than 65,536 bytes is one: see `LaidOut`)

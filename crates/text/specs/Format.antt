@@ -1,4 +1,4 @@
--- The text format (document 01, "Text program"), given by what a file prints as. A text is laid out as the format says
+-- The text format (document 01, "Text program"; document 02, P3), given by what a file prints as. A text is laid out as the format says
 -- when it is the print of a file whose numbers fit, and has at most 65,536 bytes (`LaidOut`).
 use mathlib.Core.Path.{_≡_}
 use mathlib.Core.Bool.{cond}
@@ -22,7 +22,7 @@ line [] = 10 ∷ []
 line (f ∷ []) = f ++ 10 ∷ []
 line (f ∷ g ∷ fs) = f ++ 44 ∷ line (g ∷ fs)
 
--- the letters F S A M X Z of the kinds 1 to 6
+-- the letters F S A M X Z C W of the kinds 1 to 8
 unfoldable pub letterOf : ℕ → ℕ
 letterOf k =
     cond (eqb k 1) 70
@@ -30,12 +30,15 @@ letterOf k =
     (cond (eqb k 3) 65
     (cond (eqb k 4) 77
     (cond (eqb k 5) 88
-    (cond (eqb k 6) 90 0)))))
+    (cond (eqb k 6) 90
+    (cond (eqb k 7) 67
+    (cond (eqb k 8) 87 0)))))))
 
--- a T file is d, n and columns of numbers; an L file is d, n and rows
+-- a T file is d, n and columns of numbers; an L file is d, n and rows; a G file, a partner's list (document 02, P3), is laid out as an L file
 pub data File : Type 0 where
   tableauFile : ℕ → ℕ → List (List ℕ) → File
   listFile : ℕ → ℕ → List WrittenRow → File
+  partnerFile : ℕ → ℕ → List WrittenRow → File
 
 -- the header: a letter, then d and n
 abbrev pub header : ℕ → ℕ → ℕ → List ℕ
@@ -53,16 +56,17 @@ unfoldable pub concatenated : {A : Type 0} → (A → List ℕ) → List A → L
 concatenated f [] = []
 concatenated f (x ∷ xs) = f x ++ concatenated f xs
 
--- T is 84, L is 76
+-- T is 84, L is 76, G is 71
 abbrev pub printFile : File → List ℕ
 printFile (tableauFile d n columns) = header 84 d n ++ concatenated columnLine columns
 printFile (listFile d n rows) = header 76 d n ++ concatenated rowLine rows
+printFile (partnerFile d n rows) = header 71 d n ++ concatenated rowLine rows
 
 -- a refusal: R (82) and its number
 abbrev pub printRefusal : ℕ → List ℕ
 printRefusal k = line ((82 ∷ []) ∷ digits k ∷ [])
 
--- numbers are at most 65,535, a line has a field, a row's kind is 1 to 6
+-- numbers are at most 65,535, a line has a field, a row's kind is one that has a letter
 unfoldable pub Every : {A : Type 0} → (A → Type 0) → List A → Type 0
 Every P [] = Unit {0}
 Every P (x ∷ xs) = P x × Every P xs
@@ -73,12 +77,16 @@ Fits x = x ≤ 65535
 abbrev pub ColumnFits : List ℕ → Type 0
 ColumnFits xs = (0 < length xs) × Every Fits xs
 
+abbrev pub KindFits : ℕ → Type 0
+KindFits kind = (1 ≤ kind) × (kind ≤ 8)
+
 abbrev pub RowFits : WrittenRow → Type 0
-RowFits r = ((1 ≤ r .kind) × (r .kind ≤ 6)) × (Fits (r .first) × (Fits (r .second) × Fits (r .power)))
+RowFits r = KindFits (r .kind) × (Fits (r .first) × (Fits (r .second) × Fits (r .power)))
 
 abbrev pub FileFits : File → Type 0
 FileFits (tableauFile d n columns) = (Fits d × Fits n) × Every ColumnFits columns
 FileFits (listFile d n rows) = (Fits d × Fits n) × Every RowFits rows
+FileFits (partnerFile d n rows) = (Fits d × Fits n) × Every RowFits rows
 
 abbrev pub LaidOut : List ℕ → File → Type 0
 LaidOut text f = (length text ≤ 65536) × (FileFits f × (text ≡ printFile f))

@@ -1,4 +1,6 @@
-// The text format, read and printed, and what the text program prints for a text (document 01, "Text program").
+// The text format, read and printed, and what the text program prints for a text (document 01, "Text program"; document 02, P3).
+use crate::partner::partner_check;
+use crate::partner::translate;
 use crate::printing::print_list;
 use crate::printing::print_refusal;
 use crate::printing::print_tableau;
@@ -13,11 +15,12 @@ ghost use Prim.Native.Nat.{_+_, _*_, _≤_};
 ghost use lib.ListN.{length, take};
 ghost use Rattle.arith.specs.Refusals.{refusalNumber, numberOf, orElse, givenOf};
 ghost use Rattle.arith.specs.declared.checks.Refusal.the-variants.{Text};
-ghost use Rattle.text.specs.Format.{printRefusal};
+ghost use Rattle.text.specs.Format.{listFile, partnerFile, printRefusal};
 ghost use Rattle.text.specs.Convert.{countsOf, Converts, InputFits, ConvertsInput};
 ghost use Rattle.text.specs.inner.Prints.{Prints};
-ghost use Rattle.text.specs.inner.FromBytes.{outcomeOf, ListConverts, TableauConverts, ColumnsConvert};
+ghost use Rattle.text.specs.inner.FromBytes.{outcomeOf, RowsConvert, TableauConverts, ColumnsConvert};
 
+pub mod partner;
 pub mod printing;
 pub mod reading;
 
@@ -53,13 +56,26 @@ fn print_no_file(out: &mut [u8]) -> usize
 // Prints the tableau of a list, or a refusal.
 fn convert_list(d: u16, n: u16, list: &[u8], answer: &mut [u8], out: &mut [u8]) -> usize
     requires { ⌜ (2112 ≤ length (now answer)) × (6350 ≤ length (now out)) ⌝ }
-    ensures { λ r. ⌜ (r ≤ length (now (out .exit))) × ListConverts d n (now (list .entry)) (take r (now (out .exit))) ⌝ }
+    ensures { λ r. ⌜ (r ≤ length (now (out .exit))) × RowsConvert listFile d n (now (list .entry)) (take r (now (out .exit))) ⌝ }
 {
     let number = tableau::calls::tableau_of(d, n, list, answer);
     let Outcome::Done = outcome_of(number) else {
         return print_refusal(number, out);
     };
     print_tableau(d, n, answer, out)
+}
+
+// Prints the tableau of a partner's list, whose rows are translated in place, or a refusal.
+fn convert_partner(d: u16, n: u16, list: &mut [u8], answer: &mut [u8], out: &mut [u8]) -> usize
+    requires { ⌜ (2112 ≤ length (now answer)) × (6350 ≤ length (now out)) ⌝ }
+    ensures { λ r. ⌜ (r ≤ length (now (out .exit))) × RowsConvert partnerFile d n (now (list .entry)) (take r (now (out .exit))) ⌝ }
+{
+    let found = partner_check(d, n, list);
+    let Check::Good = found else {
+        return print_refusal(arith::checks::number(found), out);
+    };
+    translate(list, d);
+    convert_list(d, n, list, answer, out)
 }
 
 // 3: the counts of the numbers in the columns, and of the columns.
@@ -135,6 +151,13 @@ pub fn convert(text: &[u8], numbers: &mut [u8], answer: &mut [u8], out: &mut [u8
             out,
         ),
         Reading::Rows { d, n, lines } => convert_list(d, n, &numbers[..8 * lines], answer, out),
+        Reading::PartnerRows { d, n, lines } => convert_partner(
+            d,
+            n,
+            &mut numbers[..8 * lines],
+            answer,
+            out,
+        ),
     }
 }
 

@@ -4,7 +4,7 @@ ghost use mathlib.Core.Bool.{cond, _&&_};
 ghost use Prim.Native.Nat.{_+_, _*_, _≤_, _<_};
 ghost use lib.ListN.{length, drop};
 ghost use Rattle.text.specs.inner.Scan.{kindOf, letterField, firstDigit, nextDigit, grownOf, inHead, letterDue, afterLine, brokenOf, grow, commaOf, lineOf, endedOf, endedOut, afterByte, outAfterByte, keptOf, openingOf, startOf, scanned, valueOf, Within};
-ghost use Rattle.text.specs.inner.Reads.{wholeOf, answerOf, Reads};
+ghost use Rattle.text.specs.inner.Reads.{wholeOf, answerOf, namedOf, Reads};
 
 // The line that is being read.
 pub enum Form {
@@ -13,7 +13,7 @@ pub enum Form {
     ListHead,
     // After T: numbers.
     Column,
-    // After L: a letter and three numbers.
+    // After L or G: a letter and three numbers.
     GateRow,
     // The text is not laid out as the format says.
     Broken,
@@ -64,6 +64,12 @@ pub enum Reading {
         n: u16,
         lines: usize,
     },
+    // The rows of a G file.
+    PartnerRows {
+        d: u16,
+        n: u16,
+        lines: usize,
+    },
 }
 
 // The kind of a row's letter, or 0.
@@ -77,6 +83,8 @@ fn kind(b: u8) -> u16
         b'M' => 4,
         b'X' => 5,
         b'Z' => 6,
+        b'C' => 7,
+        b'W' => 8,
         _ => 0,
     }
 }
@@ -379,6 +387,7 @@ fn opening(a: u8, b: u8) -> Form
     match a {
         b'T' => Form::TableHead,
         b'L' => Form::ListHead,
+        b'G' => Form::ListHead,
         _ => Form::Broken,
     }
 }
@@ -422,6 +431,25 @@ fn answer(s: State) -> Reading
     }
 }
 
+// What the text holds, by its first byte: after G the rows are a partner's.
+fn named(first: u8, found: Reading) -> Reading
+    ensures { λ r. ⌜ r ≡ namedOf first found ⌝ }
+{
+    if first != b'G' {
+        return found;
+    }
+    match found {
+        Reading::NoFile => found,
+        Reading::Tableau { .. } => found,
+        Reading::Rows { d, n, lines } => Reading::PartnerRows {
+            d: d,
+            n: n,
+            lines: lines,
+        },
+        Reading::PartnerRows { .. } => found,
+    }
+}
+
 // The file that the text holds. Its numbers are written from the front of `out`, two bytes each.
 pub fn read(text: &[u8], out: &mut [u8]) -> Reading
     requires { ⌜ (length (now text) ≤ 65536 → length (now text) ≤ length (now out)) ⌝ }
@@ -433,6 +461,7 @@ pub fn read(text: &[u8], out: &mut [u8]) -> Reading
     if text.len() < 2 {
         return Reading::NoFile;
     }
-    let form = opening(text[0], text[1]);
-    answer(scan(text, form, out))
+    let first = text[0];
+    let form = opening(first, text[1]);
+    named(first, answer(scan(text, form, out)))
 }

@@ -1,6 +1,7 @@
-//! Clifford operations on qudits, written from the rules (document 01) and
-//! from nothing else. It is the other side of every comparison, so it stays
-//! close to the words of the rules and takes no short cut for speed.
+//! Clifford operations on qudits, written from the rules (document 01, and
+//! those requests of document 02 that are built) and from nothing else. It is
+//! the other side of every comparison, so it stays close to the words of the
+//! rules and takes no short cut for speed.
 //!
 //! This file has the mathematics: numbers are `i64` and always reduced.
 //! `calls` has the thirteen public calls on bytes, `text` the text program,
@@ -165,6 +166,13 @@ pub const A: u16 = 3;
 pub const M: u16 = 4;
 pub const X: u16 = 5;
 pub const Z: u16 = 6;
+pub const C: u16 = 7;
+pub const W: u16 = 8;
+
+/// Whether rows of a kind have a second qudit.
+pub fn takes_two(kind: u16) -> bool {
+    matches!(kind, A | C | W)
+}
 
 #[derive(Clone, Copy, Debug, PartialEq, Eq)]
 pub struct Row {
@@ -180,14 +188,15 @@ impl Row {
         let power_is_legal = match self.kind {
             F => (1..=3).contains(&power),
             S => (1..=2 * d - 1).contains(&power),
-            A | X | Z => (1..=d - 1).contains(&power),
+            A | X | Z | C => (1..=d - 1).contains(&power),
             M => (1..=d - 1).contains(&power) && is_unit(power, d),
+            W => power == 1,
             _ => return false,
         };
         let is_qudit = |q: u16| 1 <= q && q as usize <= n;
-        let second_is_legal = match self.kind {
-            A => is_qudit(self.second) && self.second != self.first,
-            _ => self.second == 0,
+        let second_is_legal = match takes_two(self.kind) {
+            true => is_qudit(self.second) && self.second != self.first,
+            false => self.second == 0,
         };
         power_is_legal && is_qudit(self.first) && second_is_legal
     }
@@ -218,6 +227,17 @@ impl Row {
             }
             X => p.phase -= 2 * k * p.w[i],
             Z => p.phase += 2 * k * p.v[i],
+            C => {
+                let j = self.second as usize - 1;
+                p.phase += 2 * k * p.v[i] * p.v[j];
+                p.w[j] = (p.w[j] + k * p.v[i]).rem_euclid(d);
+                p.w[i] += k * p.v[j];
+            }
+            W => {
+                let j = self.second as usize - 1;
+                p.v.swap(i, j);
+                p.w.swap(i, j);
+            }
             _ => unreachable!("the row is legal"),
         }
         p.phase = p.phase.rem_euclid(2 * d);
@@ -228,10 +248,7 @@ impl Row {
     /// The qudits that a legal row uses: its first, and its second where its kind
     /// takes two.
     pub fn qudits(&self) -> impl Iterator<Item = usize> + Clone {
-        let second = match self.kind {
-            A => Some(self.second as usize),
-            _ => None,
-        };
+        let second = takes_two(self.kind).then_some(self.second as usize);
         std::iter::once(self.first as usize).chain(second)
     }
 
@@ -253,7 +270,28 @@ impl Row {
             F => 4 - k,
             S => 2 * d - k,
             M => inverse_of_unit(k, d),
+            W => 1,
             _ => d - k,
+        };
+        Row {
+            power: power as u16,
+            ..*self
+        }
+    }
+
+    /// Whether a row may stand in a list written by document 002: it is legal as
+    /// it is written, and it isn't S.
+    pub fn is_legal_by_002(&self, d: i64, n: usize) -> bool {
+        self.kind != S && self.is_legal(d, n)
+    }
+
+    /// The row here that does what such a row means in document 002.
+    pub fn from_002(&self, d: i64) -> Row {
+        let k = self.power as i64;
+        let power = match self.kind {
+            A | X => d - k,
+            M => inverse_of_unit(k, d),
+            _ => k,
         };
         Row {
             power: power as u16,

@@ -1,6 +1,6 @@
 //! Seeded inputs. The same seed gives the same inputs on every machine.
 
-use crate::{calls, is_unit, Pauli, Row, Tableau, A, F, M, S};
+use crate::{calls, is_unit, takes_two, Pauli, Row, Tableau, F, M, S, W, Z};
 
 /// Some dimensions, prime and composite, that the tests go back to: small
 /// ones, powers of primes, products of many primes, and those at the limit.
@@ -11,6 +11,11 @@ pub const DIMENSIONS: [u16; 30] = [
 
 /// The ways to touch a qudit: whether v isn't 0, and whether w isn't.
 pub const WAYS: [(bool, bool); 3] = [(true, false), (false, true), (true, true)];
+
+/// So many rows that most entries of their tableau are not 0.
+fn dense_rows(n: usize) -> usize {
+    20 * n + 4 * n * n
+}
 
 pub struct Random(u64);
 
@@ -115,22 +120,24 @@ impl Random {
         self.pauli_on(word, d, n)
     }
 
-    pub fn row(&mut self, d: i64, n: usize) -> Row {
+    /// A legal row of one of the kinds up to the last one.
+    fn row_up_to(&mut self, last: u16, d: i64, n: usize) -> Row {
         let kind = loop {
-            let kind = self.between(1, 6) as u16;
-            if kind != A || n > 1 {
+            let kind = self.between(1, last as usize) as u16;
+            if !takes_two(kind) || n > 1 {
                 break kind;
             }
         };
         let first = self.between(1, n);
-        let second = match kind {
-            A => (first - 1 + self.between(1, n - 1)) % n + 1,
-            _ => 0,
+        let second = match takes_two(kind) {
+            true => (first - 1 + self.between(1, n - 1)) % n + 1,
+            false => 0,
         };
         let power = loop {
             let power = match kind {
                 F => self.between(1, 3) as i64,
                 S => self.entry(2 * d),
+                W => 1,
                 _ => self.entry(d),
             };
             if power != 0 && (kind != M || is_unit(power, d)) {
@@ -145,23 +152,48 @@ impl Random {
         }
     }
 
+    pub fn row(&mut self, d: i64, n: usize) -> Row {
+        self.row_up_to(W, d, n)
+    }
+
+    /// A row of one of the first six kinds.
+    pub fn row_of_six(&mut self, d: i64, n: usize) -> Row {
+        self.row_up_to(Z, d, n)
+    }
+
     pub fn rows(&mut self, count: usize, d: i64, n: usize) -> Vec<Row> {
         (0..count).map(|_| self.row(d, n)).collect()
     }
 
-    /// The tableau of a random list of so many rows, with an even number added
-    /// to each phase, which keeps it sound.
-    pub fn sound_tableau(&mut self, count: usize, d: i64, n: usize) -> Tableau {
-        let mut tableau = crate::tableau_of_list(&self.rows(count, d, n), d, n);
+    pub fn rows_of_six(&mut self, count: usize, d: i64, n: usize) -> Vec<Row> {
+        (0..count).map(|_| self.row_of_six(d, n)).collect()
+    }
+
+    /// The tableau of a list, with an even number added to each phase, which
+    /// keeps it sound.
+    fn moved_tableau(&mut self, rows: &[Row], d: i64, n: usize) -> Tableau {
+        let mut tableau = crate::tableau_of_list(rows, d, n);
         for column in &mut tableau {
             column.phase = (column.phase + 2 * self.entry(d)) % (2 * d);
         }
         tableau
     }
 
+    /// A sound tableau, by a random list of so many rows.
+    pub fn sound_tableau(&mut self, count: usize, d: i64, n: usize) -> Tableau {
+        let rows = self.rows(count, d, n);
+        self.moved_tableau(&rows, d, n)
+    }
+
     /// The same with enough rows that most entries are not 0.
     pub fn dense_tableau(&mut self, d: i64, n: usize) -> Tableau {
-        self.sound_tableau(20 * n + 4 * n * n, d, n)
+        self.sound_tableau(dense_rows(n), d, n)
+    }
+
+    /// The same by rows of the first six kinds.
+    pub fn dense_tableau_of_six(&mut self, d: i64, n: usize) -> Tableau {
+        let rows = self.rows_of_six(dense_rows(n), d, n);
+        self.moved_tableau(&rows, d, n)
     }
 
     pub fn list_bytes(&mut self, count: usize, d: i64, n: usize) -> Vec<u8> {

@@ -192,9 +192,9 @@ fn the_identity_has_the_empty_list() {
 #[test]
 fn idle_rows() {
     for d in 2..=12 {
-        for kind in F..=Z {
+        for kind in F..=W {
             for power in 1..2 * d as u16 {
-                let row = row(kind, 1, if kind == A { 2 } else { 0 }, power);
+                let row = row(kind, 1, if takes_two(kind) { 2 } else { 0 }, power);
                 if row.is_legal(d, 2) {
                     let keeps_all = tableau_of_list(&[row], d, 2) == unit_tableau(2);
                     assert_eq!(row.is_idle(d), keeps_all, "d = {d}, {row:?}");
@@ -384,10 +384,8 @@ fn images_refusals() {
     }
 }
 
-/// One of the shortest rows on a qudit, or on two.
-fn row_on(first: u16, second: u16) -> Row {
-    row(if second == 0 { F } else { A }, first, second, 1)
-}
+/// The kinds of two qudits.
+const OF_TWO: [u16; 3] = [A, C, W];
 
 #[test]
 fn ticks_by_hand() {
@@ -403,8 +401,11 @@ fn ticks_by_hand() {
         (&[(1, 0), (1, 2), (2, 0)], 3),
         (&[(1, 2), (2, 3), (3, 4), (1, 0)], 3),
     ] {
-        let rows: Vec<Row> = qudits.iter().map(|&(i, j)| row_on(i, j)).collect();
-        assert_eq!(ticks(&rows, 4), wanted, "{rows:?}");
+        for kind in OF_TWO {
+            let row_on = |&(i, j): &(u16, u16)| row(if j == 0 { F } else { kind }, i, j, 1);
+            let rows: Vec<Row> = qudits.iter().map(row_on).collect();
+            assert_eq!(ticks(&rows, 4), wanted, "{rows:?}");
+        }
     }
 }
 
@@ -478,6 +479,38 @@ fn text_refusals() {
         ("L,4,1\nF,1,0,04\n", 9),
         ("L,4,1\nF,1,0,65536\n", 9),
         ("L,4,1\r\n", 9),
+        ("L,4,2\nC,1,2,0\n", 6),
+        ("L,4,2\nC,1,2,4\n", 6),
+        ("L,4,2\nC,1,1,1\n", 6),
+        ("L,4,2\nW,1,2,0\n", 6),
+        ("L,4,2\nW,1,2,2\n", 6),
+        ("L,4,2\nW,1,0,1\n", 6),
+        ("L,4,1\nW,1,2,1\n", 6),
+        ("L,4,2\nE,1,2,1\n", 9),
+        ("G,4,2\nE,1,2,1\n", 9),
+        ("g,4,2\n", 9),
+        ("H,4,2\n", 9),
+        ("G,4\n", 9),
+        ("G,4,2", 9),
+        ("G,1,0\nS,1,0,1\n", 1),
+        ("G,1025,2\nS,1,0,1\n", 1),
+        ("G,4,0\nS,1,0,1\n", 2),
+        ("G,4,17\nS,1,0,1\n", 2),
+        ("G,4,2\nS,1,0,1\n", 6),
+        ("G,4,2\nF,1,0,1\nS,2,0,7\n", 6),
+        ("G,4,2\nS,1,0,1\nF,1,0\n", 9),
+        ("G,4,2\nA,1,2,0\n", 6),
+        ("G,4,2\nA,1,2,4\n", 6),
+        ("G,4,2\nA,1,2,5\n", 6),
+        ("G,4,2\nX,1,0,5\n", 6),
+        ("G,4,2\nX,1,0,0\n", 6),
+        ("G,4,2\nX,1,0,4\n", 6),
+        ("G,4,2\nM,1,0,2\n", 6),
+        ("G,4,2\nM,1,0,0\n", 6),
+        ("G,4,2\nM,1,0,5\n", 6),
+        ("G,4,2\nW,1,2,2\n", 6),
+        ("G,4,2\nC,1,2,4\n", 6),
+        ("G,4,1\nC,1,2,1\n", 6),
     ] {
         assert_eq!(
             text::convert(input.as_bytes()),
@@ -486,6 +519,15 @@ fn text_refusals() {
         );
     }
     assert_eq!(text::convert(b"L,4,1\n"), b"T,4,1\n0,1,0\n0,0,1\n");
+    assert_eq!(text::convert(b"G,4,1\n"), b"T,4,1\n0,1,0\n0,0,1\n");
+    for (rows, printed) in [
+        ("S,1,0,1\n", "R,3\n"),
+        ("F,1,0,1\n", "R,3\n"),
+        ("", "R,6\n"),
+    ] {
+        let list = format!("G,4,1\n{}S,1,0,1\n", "F,1,0,1\n".repeat(4095) + rows);
+        assert_eq!(text::convert(list.as_bytes()), printed.as_bytes());
+    }
 }
 
 #[test]
@@ -536,22 +578,201 @@ fn power_is_the_product_of_copies() {
 }
 
 #[test]
-fn rows_are_undone_and_keep_products() {
+fn rows_are_undone_and_keep_products_and_commutation() {
     let mut random = Random::new(2, 0);
+    let mut drawn = [0; W as usize + 1];
     for _ in 0..20_000 {
         let d = random.pick(&DIMENSIONS) as i64;
         let n = random.between(1, 4);
         let (p, q, row) = (random.pauli(d, n), random.pauli(d, n), random.row(d, n));
+        drawn[row.kind as usize] += 1;
         assert!(row.is_legal(d, n) && row.undo(d).is_legal(d, n));
         assert_eq!(run(&[row, row.undo(d)], &p, d), p);
-        let images = run(&[row], &p, d).product(&run(&[row], &q, d), d);
-        assert_eq!(run(&[row], &p.product(&q, d), d), images);
+        assert_eq!(run(&[row.undo(d), row], &p, d), p);
+        let (image, other) = (run(&[row], &p, d), run(&[row], &q, d));
+        assert_eq!(run(&[row], &p.product(&q, d), d), image.product(&other, d));
+        assert_eq!(p.commutation(&q, d), image.commutation(&other, d));
         // A power is one row: it does what so many rows of power 1 would do.
         if row.kind != M {
             let ones = vec![Row { power: 1, ..row }; row.power as usize];
             assert_eq!(run(&[row], &p, d), run(&ones, &p, d));
         }
     }
+    assert!(drawn[1..].iter().all(|&rows| rows > 1000), "{drawn:?}");
+}
+
+/// C and W need a second qudit as A does; the power of C is 1 to d − 1, that of W
+/// is 1. No other kind is legal.
+#[test]
+fn legal_rows_of_two_qudits() {
+    let edges = |limit: u16| [0, 1, 2, limit - 1, limit, limit + 1, 256 + 1, u16::MAX];
+    for d in [2, 3, 4, 6, 1024] {
+        for n in [1, 2, 3, 16] {
+            for (first, second) in edges(n)
+                .iter()
+                .flat_map(|&first| edges(n).map(|second| (first, second)))
+            {
+                let is_qudit = |q: u16| 1 <= q && q <= n;
+                let of_two = is_qudit(first) && is_qudit(second) && first != second;
+                for power in edges(d) {
+                    let legal =
+                        |kind| row(kind, first, second, power).is_legal(d as i64, n as usize);
+                    let in_range = 1 <= power && power < d;
+                    assert_eq!(legal(A), of_two && in_range);
+                    assert_eq!(legal(C), of_two && in_range);
+                    assert_eq!(legal(W), of_two && power == 1);
+                    for kind in [0, 9, 10, 256 + A, 256 + C, 256 + W, u16::MAX] {
+                        assert!(!legal(kind), "{kind}");
+                    }
+                }
+            }
+        }
+    }
+}
+
+/// Paulis as phase, v, w.
+#[test]
+fn rows_of_two_qudits_by_hand() {
+    let of = |x: &[i64]| pauli(x[0], &x[1..=x.len() / 2], &x[x.len() / 2 + 1..]);
+    for (d, row, p, wanted) in [
+        (
+            4,
+            row(C, 1, 2, 1),
+            &[0, 1, 1, 0, 0][..],
+            &[2, 1, 1, 1, 1][..],
+        ),
+        (4, row(C, 1, 2, 3), &[5, 2, 3, 1, 0], &[1, 2, 3, 2, 2]),
+        (4, row(C, 2, 1, 3), &[5, 2, 3, 1, 0], &[1, 2, 3, 2, 2]),
+        (2, row(C, 1, 2, 1), &[3, 1, 1, 1, 1], &[1, 1, 1, 0, 0]),
+        (
+            3,
+            row(C, 3, 1, 2),
+            &[1, 1, 2, 0, 0, 1, 1],
+            &[1, 1, 2, 0, 0, 1, 0],
+        ),
+        (4, row(W, 1, 2, 1), &[3, 1, 2, 3, 0], &[3, 2, 1, 0, 3]),
+        (
+            4,
+            row(W, 3, 1, 1),
+            &[7, 1, 2, 0, 0, 1, 3],
+            &[7, 0, 2, 1, 3, 1, 0],
+        ),
+    ] {
+        assert_eq!(run(&[row], &of(p), d), of(wanted), "{row:?} {p:?}");
+    }
+}
+
+/// Document 002's (12) and (9), by which C and W are rows of the six kinds; and
+/// which of the two qudits of C and W is the first makes no difference.
+#[test]
+fn rows_of_two_qudits_by_other_rows() {
+    let mut random = Random::new(8, 0);
+    for _ in 0..4000 {
+        let d = random.pick(&DIMENSIONS) as i64;
+        let n = random.between(2, 5);
+        let p = random.pauli(d, n);
+        let (i, j) = loop {
+            let pair = (random.between(1, n) as u16, random.between(1, n) as u16);
+            if pair.0 != pair.1 {
+                break pair;
+            }
+        };
+        let power = random.between(1, d as usize - 1) as u16;
+        let (most, left) = (d as u16 - 1, d as u16 - power);
+        let gives = |rows: &[Row]| {
+            assert!(rows.iter().all(|row| row.is_legal(d, n)));
+            run(rows, &p, d)
+        };
+        let by_c = gives(&[row(C, i, j, power)]);
+        let twelve = [row(F, j, 0, 1), row(A, i, j, left), row(F, j, 0, 3)];
+        assert_eq!(by_c, gives(&twelve), "{d} {i} {j} {power} {p:?}");
+        assert_eq!(by_c, gives(&[row(C, j, i, power)]));
+
+        let by_w = gives(&[row(W, i, j, 1)]);
+        let nine = [
+            row(F, i, 0, 2),
+            row(A, i, j, most),
+            row(A, j, i, 1),
+            row(A, i, j, most),
+        ];
+        assert_eq!(by_w, gives(&nine), "{d} {i} {j} {p:?}");
+        assert_eq!(by_w, gives(&[row(W, j, i, 1)]));
+        assert_eq!(gives(&[row(W, i, j, 1); 2]), p);
+        let (image, other) = (by_w.support().0, p.support().0);
+        assert_eq!(image.count_ones(), other.count_ones());
+    }
+}
+
+/// The tableau that is printed for an L file, and for a G file.
+fn of_rows(header: &str, rows: &str) -> String {
+    let printed = text::convert(&file(header, rows));
+    String::from_utf8(printed).unwrap()
+}
+
+/// What each letter of a G file stands for.
+#[test]
+fn rows_by_002() {
+    for (size, written, meant) in [
+        ("5,2", "F,1,0,1", "F,1,0,1"),
+        ("5,2", "F,2,0,3", "F,2,0,3"),
+        ("5,2", "A,1,2,1", "A,1,2,4"),
+        ("5,2", "A,2,1,3", "A,2,1,2"),
+        ("4,2", "A,2,1,2", "A,2,1,2"),
+        ("2,2", "A,2,1,1", "A,2,1,1"),
+        ("5,2", "M,1,0,2", "M,1,0,3"),
+        ("9,1", "M,1,0,4", "M,1,0,7"),
+        ("8,1", "M,1,0,5", "M,1,0,5"),
+        ("5,2", "X,2,0,1", "X,2,0,4"),
+        ("1024,1", "X,1,0,1000", "X,1,0,24"),
+        ("5,2", "Z,2,0,1", "Z,2,0,1"),
+        ("5,2", "C,1,2,3", "C,1,2,3"),
+        ("5,2", "W,1,2,1", "W,1,2,1"),
+        ("5,2", "", ""),
+        (
+            "5,2",
+            "F,1,0,1 A,1,2,1 X,2,0,1 M,1,0,2 C,2,1,3 W,2,1,1 Z,1,0,4",
+            "F,1,0,1 A,1,2,4 X,2,0,4 M,1,0,3 C,2,1,3 W,2,1,1 Z,1,0,4",
+        ),
+    ] {
+        let given = of_rows(&format!("G,{size}"), written);
+        assert!(given.starts_with(&format!("T,{size}\n")), "{given}");
+        assert_eq!(given, of_rows(&format!("L,{size}"), meant), "{written}");
+    }
+    // The other convention is another one: these differ as rows of an L file.
+    for (size, row) in [("5,2", "A,1,2,1"), ("5,1", "M,1,0,2"), ("5,1", "X,1,0,1")] {
+        let [g, l] = ["G", "L"].map(|letter| of_rows(&format!("{letter},{size}"), row));
+        assert_ne!(g, l, "{row}");
+    }
+}
+
+/// 002's (9), (10) and (12) as lists of the partner, the first row first.
+#[test]
+fn relations_of_002() {
+    for d in [2, 3, 4, 6, 9, 1024] {
+        let (header, most) = (format!("G,{d},2"), d - 1);
+        let same = |rows: &str, others: &str| {
+            assert_eq!(of_rows(&header, rows), of_rows(&header, others), "{rows}");
+        };
+        let nine = format!("F,1,0,2 A,1,2,1 A,2,1,{most} A,1,2,1");
+        same("W,1,2,1", &nine);
+        same(&format!("A,2,1,{most}"), "F,2,0,2 A,2,1,1 F,2,0,2");
+        for k in [1, most] {
+            same(&format!("A,1,2,{k}"), &format!("F,2,0,3 C,1,2,{k} F,2,0,1"));
+        }
+    }
+}
+
+/// A T file is printed as an L file, though a list of a G file would do it too.
+#[test]
+fn no_list_is_printed_by_002() {
+    let rows = "F,1,0,1 A,1,2,1 X,2,0,1";
+    let (written, tableau) = (file("G,4,2", rows), of_rows("G,4,2", rows));
+    let printed = text::convert(tableau.as_bytes());
+    assert!(printed.starts_with(b"L,4,2\n"));
+    assert!(text::is_right(tableau.as_bytes(), &printed));
+    assert!(!text::is_right(tableau.as_bytes(), &written));
+    assert!(text::is_right(&written, tableau.as_bytes()));
+    assert!(!text::is_right(&written, of_rows("L,4,2", rows).as_bytes()));
 }
 
 /// Every tableau for n = 1 and small d: those that lists reach, found by

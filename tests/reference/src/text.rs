@@ -1,9 +1,9 @@
 //! The text program, as a function from its standard input to its standard
 //! output.
 
-use crate::calls;
+use crate::{calls, Row};
 
-const LETTERS: &[u8] = b"FSAMXZ";
+const LETTERS: &[u8] = b"FSAMXZCW";
 const MOST_BYTES: usize = 65_536;
 
 /// The input, once its layout is known to hold. Its numbers are not judged yet.
@@ -16,7 +16,9 @@ enum File {
     List {
         d: u16,
         n: u16,
-        rows: Vec<[u16; 4]>,
+        rows: Vec<Row>,
+        /// Its rows are written by document 002.
+        by_002: bool,
     },
 }
 
@@ -30,13 +32,18 @@ fn number(field: &[u8]) -> Option<u16> {
     std::str::from_utf8(field).ok()?.parse().ok()
 }
 
-fn row(fields: &[&[u8]]) -> Option<[u16; 4]> {
+fn row(fields: &[&[u8]]) -> Option<Row> {
     let [letter, first, second, power] = fields else {
         return None;
     };
     let [letter] = letter else { return None };
     let kind = LETTERS.iter().position(|known| known == letter)? as u16 + 1;
-    Some([kind, number(first)?, number(second)?, number(power)?])
+    Some(Row {
+        kind,
+        first: number(first)?,
+        second: number(second)?,
+        power: number(power)?,
+    })
 }
 
 fn file(input: &[u8]) -> Option<File> {
@@ -63,9 +70,14 @@ fn file(input: &[u8]) -> Option<File> {
                 columns: rest.iter().map(column).collect::<Option<_>>()?,
             })
         }
-        b"L" => {
+        b"L" | b"G" => {
             let rows = rest.iter().map(|line| row(line)).collect::<Option<_>>()?;
-            Some(File::List { d, n, rows })
+            Some(File::List {
+                d,
+                n,
+                rows,
+                by_002: letter == b"G",
+            })
         }
         _ => None,
     }
@@ -92,16 +104,30 @@ fn answer(input: &[u8]) -> Result<String, u16> {
             }
             Ok(printed)
         }
-        File::List { d, n, rows } => {
-            let mut out = vec![0; calls::tableau_len(16)];
-            let list = calls::bytes(rows.into_iter().flatten());
-            let number = calls::tableau(d, n, &list, &mut out);
+        File::List {
+            d,
+            n,
+            mut rows,
+            by_002,
+        } => {
+            let dim = calls::dimension(d)?;
+            let width = calls::width(n)?;
+            if rows.len() > calls::MOST_ROWS {
+                return Err(calls::LENGTH);
+            }
+            if by_002 {
+                if !rows.iter().all(|row| row.is_legal_by_002(dim, width)) {
+                    return Err(calls::ROW);
+                }
+                rows = rows.iter().map(|row| row.from_002(dim)).collect();
+            }
+            let mut out = vec![0; calls::tableau_len(width)];
+            let number = calls::tableau(d, n, &calls::bytes_of_rows(&rows), &mut out);
             if number != 0 {
                 return Err(number);
             }
-            let width = n as usize;
             let mut printed = format!("T,{d},{n}\n");
-            for column in out[..calls::tableau_len(width)].chunks(calls::pauli_len(width)) {
+            for column in out.chunks(calls::pauli_len(width)) {
                 let column: Vec<String> =
                     calls::numbers(column).iter().map(u16::to_string).collect();
                 printed += &(column.join(",") + "\n");
@@ -135,6 +161,7 @@ pub fn is_right(input: &[u8], printed: &[u8]) -> bool {
         d: list_d,
         n: list_n,
         rows,
+        by_002: false,
     }) = file(printed)
     else {
         return false;

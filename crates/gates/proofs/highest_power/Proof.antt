@@ -24,6 +24,7 @@ highest-power-spec = tie.close (tie.spec
     (λ c. search needs)  -- sub-t8
     (λ c. search needs)  -- sub-t9
     (λ c. search needs)  -- sub-t10
+    (λ c. search needs)  -- sub-t11
     (λ c. search needs)  -- mul-result
     (λ c. search needs)  -- array-read-result
     (λ c. in-front _ (c .before .args .kind))  -- returns

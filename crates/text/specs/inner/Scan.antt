@@ -22,7 +22,9 @@ kindOf b =
     (cond (eqb b 65) 3
     (cond (eqb b 77) 4
     (cond (eqb b 88) 5
-    (cond (eqb b 90) 6 0)))))
+    (cond (eqb b 90) 6
+    (cond (eqb b 67) 7
+    (cond (eqb b 87) 8 0)))))))
 
 -- a field that b begins: a letter; a number
 unfoldable pub letterField : ℕ → Field
@@ -127,9 +129,9 @@ unfoldable pub scanned : State → List ℕ → List ℕ → Held
 scanned s out [] = record { state = s; out = out }
 scanned s out (b ∷ text) = scanned (afterByte s b) (outAfterByte s b out) text
 
--- the first two bytes: T or L, and a comma
+-- the first two bytes: T, L or G, and a comma. A G file is read as an L file
 unfoldable pub openingOf : ℕ → ℕ → Form
-openingOf a b = cond (eqb b 44) (cond (eqb a 84) TableHead (cond (eqb a 76) ListHead Broken)) Broken
+openingOf a b = cond (eqb b 44) (cond (eqb a 84) TableHead (cond (eqb a 76) ListHead (cond (eqb a 71) ListHead Broken))) Broken
 
 abbrev pub startOf : Form → State
 startOf form = record { form = form; d = 0; n = 0; lines = 0; place = 0; count = 0; full = true; field = Empty }

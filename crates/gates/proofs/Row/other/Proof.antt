@@ -1,7 +1,5 @@
--- `gates::Row::other` meets its contract.
-use mathlib.Core.Path.{refl, ap}
-use borrow.Author.Tests.{ne-eqb}
-use Rattle.gates.specs.Written.{takesTwo}
+-- `gates::Row::other` meets its contract: by whether the kind takes a second qudit.
+use mathlib.Core.Path.{refl, sym, _∙_}
 use Rattle.gates.specs.inner.View.{viewRow}
 use Rattle.gates.proofs.Acts.{other-is}
 use borrow.Author.Needs.{needs}
@@ -10,9 +8,10 @@ use Rattle.gates.proofs.Row.other.Tie as tie
 
 pub other-spec : {M : Type 1} → statement M
 other-spec = tie.close (tie.spec
+    (λ c κs. search needs)  -- takes-two-requires
     (λ c. search needs)  -- cast-result
-    (λ c. c .before .before .pre .1 (ap takesTwo (c .before .match .keys1)))  -- sub-result
+    (λ c. c .before .before .before .pre .1 (sym (c .before .before .takes-two .ensures) ∙ c .before .if1 .taken))  -- sub-result
+    (λ c. other-is (viewRow (c .before .before .before .args .self)) _ refl (sym (c .before .before .takes-two .ensures) ∙ c .before .if1 .taken))  -- returns
     (λ c. search needs)  -- cast-result-2
     (λ c. search needs)  -- sub-result-2
-    (λ c. other-is (viewRow (c .before .before .args .self)) 3 (c .before .match .keys1) refl)  -- returns
-    (λ c. let r = c .before .before .args .self in other-is (viewRow r) (r .kind) refl (ne-eqb (r .kind) 3 (c .before .match .rest .1))))  -- returns-2
+    (λ c. other-is (viewRow (c .before .before .before .args .self)) _ refl (sym (c .before .before .takes-two .ensures) ∙ c .before .if1 .left)))  -- returns-2

@@ -9,8 +9,6 @@ use Rattle.pauli.specs.inner.View.{view}
 use Rattle.gates.specs.Row.{apply}
 use Rattle.gates.specs.Written.{WrittenRow, legalRow, meant}
 use Rattle.gates.specs.inner.View.{viewRow}
-use Rattle.gates.specs.declared.Row.{Row}
-use Rattle.gates.proofs.Written.{legal-unit}
 use borrow.Author.Needs.{needs}
 use Rattle.gates.proofs.lists.run_row.Statement.{statement}
 use Rattle.gates.proofs.lists.run_row.Tie as tie
@@ -24,6 +22,5 @@ judged c =
 pub run-row-spec : {M : Type 1} → statement M
 run-row-spec = tie.close (tie.spec
     (λ c κs. search needs)  -- read-row-requires
-    (λ c κs. let a = c .before .before .args in (c .before .before .pre .0 .0, legal-unit (a .d) (a .n) (viewRow (c .read-row .result)) (judged c)))  -- ready-requires
-    (λ c κs. let a = c .before .before .before .args in ((c .before .before .before .pre .0 .0, c .before .before .before .pre .0 .1 .0), (ap (λ (x : Row). legalRow (a .d) (a .n) (viewRow x)) (c .ready .ensures .0) ∙ judged (c .before), c .ready .ensures .1)))  -- apply-requires
-    (λ c. let a = c .before .before .before .before .args in (c .apply .ensures .0 ∙ ap (λ (w : WrittenRow). apply (a .d) (meant w) (view (a .n) (a .p))) (ap viewRow (c .before .ready .ensures .0) ∙ c .before .before .read-row .ensures), c .apply .ensures .1)))  -- returns
+    (λ c κs. ((c .before .before .pre .0 .0, c .before .before .pre .0 .1 .0), judged c))  -- apply-requires
+    (λ c. let a = c .before .before .before .args in (c .apply .ensures .0 ∙ ap (λ (w : WrittenRow). apply (a .d) (meant w) (view (a .n) (a .p))) (c .before .read-row .ensures), c .apply .ensures .1)))  -- returns

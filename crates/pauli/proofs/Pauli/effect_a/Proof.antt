@@ -1,8 +1,7 @@
 -- `pauli::Pauli::effect_a` meets its contract: the effect on the numbers that it touches.
-use mathlib.Core.Path.{sym, ap, _∙_}
+use mathlib.Core.Path.{sym}
 use Rattle.pauli.specs.inner.View.{view}
-use Rattle.pauli.specs.inner.Touched.{placed}
-use Rattle.pauli.proofs.Numbers.{view-has}
+use Rattle.pauli.proofs.Numbers.{view-has, placed-two}
 use borrow.Author.Needs.{needs}
 use Rattle.pauli.proofs.Pauli.effect_a.Statement.{statement}
 use Rattle.pauli.proofs.Pauli.effect_a.Tie as tie
@@ -12,8 +11,8 @@ returns c =
     let e = c .before .before in
     let s = e .before .before in
     let a = s .args in (
-      λ n li lj m. c .placed2 .ensures .0 n lj m ∙ ap (placed (a .j) _ _ _) (c .before .placed .ensures .0 n li m)
-          ∙ sym (e .effect-a .ensures (a .i) (a .j) (view n (a .self)) (s .pre .1 .1 .1) (view-has (a .self) li) (view-has (a .self) lj) (sym (e .before .touched .ensures n li lj)) .replaces),
+      λ n li lj m. placed-two (c .before .placed .ensures .0 n li m) (c .placed2 .ensures .0 n lj m)
+          (e .effect-a .ensures (a .i) (a .j) (view n (a .self)) (s .pre .1 .1 .1) (view-has (a .self) li) (view-has (a .self) lj) (sym (e .before .touched .ensures n li lj))),
       λ n li lj m t. c .placed2 .ensures .1 n lj m (c .before .placed .ensures .1 n li m t),
     )
 

@@ -4,9 +4,9 @@ use Rattle.text.specs.inner.Scan.{openingOf}
 use Rattle.text.proofs.reading.opening.Statement.{statement}
 use Rattle.text.proofs.reading.opening.Tie as tie
 
-returns-4 : tie.Need-returns-4
+returns-5 : tie.Need-returns-5
 unfolding openingOf
-returns-4 c = simp (eq-eqb _ _ (c .before .if1 .left), ne-eqb _ _ (c .match .rest .0 .1), ne-eqb _ _ (c .match .rest .1))
+returns-5 c = let r = c .match .rest in simp (eq-eqb _ _ (c .before .if1 .left), ne-eqb _ _ (r .0 .0 .1), ne-eqb _ _ (r .0 .1), ne-eqb _ _ (r .1))
 
 pub opening-spec : {M : Type 1} → statement M
 unfolding openingOf
@@ -14,4 +14,5 @@ opening-spec = tie.close (tie.spec
     (λ c. simp (ne-eqb _ _ (c .if1 .taken)))  -- returns
     (λ c. simp (eq-eqb _ _ (c .before .if1 .left), c .match .keys1))  -- returns-2
     (λ c. simp (eq-eqb _ _ (c .before .if1 .left), c .match .keys2))  -- returns-3
-    returns-4)
+    (λ c. simp (eq-eqb _ _ (c .before .if1 .left), c .match .keys3))  -- returns-4
+    returns-5)
