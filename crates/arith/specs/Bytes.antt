@@ -7,17 +7,17 @@ tab f zero = []
 tab f (suc n) = f 0 ∷ tab (λ i. f (suc i)) n
 
 -- number k of the bytes, counted from 0
-unfoldable pub numberAt : List ℕ → ℕ → ℕ
-numberAt b k = get_or b (2 * k) 0 + 256 * get_or b (2 * k + 1) 0
+unfoldable pub number_at : List ℕ → ℕ → ℕ
+number_at b k = get_or b (2 * k) 0 + 256 * get_or b (2 * k + 1) 0
 
 -- the n numbers from number k on
-abbrev pub numbersAt : List ℕ → ℕ → ℕ → List ℕ
-numbersAt b k n = tab (λ i. numberAt b (k + i)) n
+abbrev pub numbers_at : List ℕ → ℕ → ℕ → List ℕ
+numbers_at b k n = tab (λ i. number_at b (k + i)) n
 
 -- the bytes of the numbers
-unfoldable pub bytesOf : List ℕ → List ℕ
-bytesOf [] = []
-bytesOf (x ∷ xs) = x % 256 ∷ x / 256 ∷ bytesOf xs
+unfoldable pub bytes_of : List ℕ → List ℕ
+bytes_of [] = []
+bytes_of (x ∷ xs) = x % 256 ∷ x / 256 ∷ bytes_of xs
 
 -- an answer at the front of an output, whose other bytes don't change
 abbrev pub front : List ℕ → List ℕ → List ℕ

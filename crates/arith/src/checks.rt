@@ -1,6 +1,6 @@
 // The checks of refusals 1 to 5, which answer an enum: the first that refuses ends a call.
 ghost use Rattle.std.specs.Prelude.{◌≡◌, ◌<◌};
-ghost use Rattle.arith.specs.Refusals.{refusalNumber, numberOf, orElse, dimensionOf, widthOf, givenOf, sizeOf, wholeOf, listSizeOf, roomOf, rangeOf};
+ghost use Rattle.arith.specs.Refusals.{refusal_number, number_of, or_else, dimension_of, width_of, given_of, size_of, whole_of, list_size_of, room_of, range_of};
 
 // The refusals of document 01's table.
 #[derive(Clone, Copy)]
@@ -42,7 +42,7 @@ pub struct Answer {
 
 // The number of a refusal.
 pub fn refusal_number(refusal: Refusal) -> u16
-    ensures { result ≡ refusalNumber refusal }
+    ensures { result ≡ refusal_number refusal }
 {
     match refusal {
         Refusal::Dimension => 1,
@@ -59,7 +59,7 @@ pub fn refusal_number(refusal: Refusal) -> u16
 
 // The number of what a check found.
 pub fn number(found: Check) -> u16
-    ensures { result ≡ numberOf found }
+    ensures { result ≡ number_of found }
 {
     match found {
         Check::Good => 0,
@@ -67,9 +67,9 @@ pub fn number(found: Check) -> u16
     }
 }
 
-#[tactic(auto, unfolding(crate::specs::Refusals::dimensionOf))]
+#[tactic(auto, unfolding(crate::specs::Refusals::dimension_of))]
 pub fn dimension(d: u16) -> Check
-    ensures { numberOf result ≡ dimensionOf d }
+    ensures { number_of result ≡ dimension_of d }
 {
     if d < 2 {
         return Check::Refused(Refusal::Dimension);
@@ -80,9 +80,9 @@ pub fn dimension(d: u16) -> Check
     Check::Good
 }
 
-#[tactic(auto, unfolding(crate::specs::Refusals::widthOf))]
+#[tactic(auto, unfolding(crate::specs::Refusals::width_of))]
 pub fn width(n: u16) -> Check
-    ensures { numberOf result ≡ widthOf n }
+    ensures { number_of result ≡ width_of n }
 {
     if n < 1 {
         return Check::Refused(Refusal::Width);
@@ -94,9 +94,9 @@ pub fn width(n: u16) -> Check
 }
 
 // 1, then 2.
-#[tactic(auto, unfolding(crate::specs::Refusals::givenOf))]
+#[tactic(auto, unfolding(crate::specs::Refusals::given_of))]
 pub fn given(d: u16, n: u16) -> Check
-    ensures { numberOf result ≡ givenOf d n }
+    ensures { number_of result ≡ given_of d n }
 {
     let of_d = dimension(d);
     let Check::Good = of_d else {
@@ -105,9 +105,9 @@ pub fn given(d: u16, n: u16) -> Check
     width(n)
 }
 
-#[tactic(auto, unfolding(crate::specs::Refusals::sizeOf))]
+#[tactic(auto, unfolding(crate::specs::Refusals::size_of))]
 pub fn size(want: usize, have: usize) -> Check
-    ensures { numberOf result ≡ sizeOf want have }
+    ensures { number_of result ≡ size_of want have }
 {
     if have == want {
         return Check::Good;
@@ -116,10 +116,10 @@ pub fn size(want: usize, have: usize) -> Check
 }
 
 // Whole items of `one` bytes, at most `most` of them.
-#[tactic(auto, unfolding(crate::specs::Refusals::wholeOf))]
+#[tactic(auto, unfolding(crate::specs::Refusals::whole_of))]
 pub fn whole(one: usize, most: usize, have: usize) -> Check
     requires { 0 < one }
-    ensures { numberOf result ≡ wholeOf one most have }
+    ensures { number_of result ≡ whole_of one most have }
 {
     let over = have % one;
     if over != 0 {
@@ -133,16 +133,16 @@ pub fn whole(one: usize, most: usize, have: usize) -> Check
 }
 
 // A list: whole rows of 8 bytes, at most 4,096 of them.
-#[tactic(auto, unfolding(crate::specs::Refusals::listSizeOf))]
+#[tactic(auto, unfolding(crate::specs::Refusals::list_size_of))]
 fn list_size(have: usize) -> Check
-    ensures { numberOf result ≡ listSizeOf have }
+    ensures { number_of result ≡ list_size_of have }
 {
     whole(8, 4096, have)
 }
 
 // 1, 2, then 3 of a list.
 pub fn given_list(d: u16, n: u16, have: usize) -> Check
-    ensures { numberOf result ≡ orElse (givenOf d n) (listSizeOf have) }
+    ensures { number_of result ≡ or_else (given_of d n) (list_size_of have) }
 {
     let of_given = given(d, n);
     let Check::Good = of_given else {
@@ -151,9 +151,9 @@ pub fn given_list(d: u16, n: u16, have: usize) -> Check
     list_size(have)
 }
 
-#[tactic(auto, unfolding(crate::specs::Refusals::roomOf))]
+#[tactic(auto, unfolding(crate::specs::Refusals::room_of))]
 pub fn room(want: usize, have: usize) -> Check
-    ensures { numberOf result ≡ roomOf want have }
+    ensures { number_of result ≡ room_of want have }
 {
     if have < want {
         return Check::Refused(Refusal::Room);
@@ -163,7 +163,7 @@ pub fn room(want: usize, have: usize) -> Check
 
 // 3 of an input, then 4 of an output.
 pub fn lent(want: usize, have: usize, answer: usize, space: usize) -> Check
-    ensures { numberOf result ≡ orElse (sizeOf want have) (roomOf answer space) }
+    ensures { number_of result ≡ or_else (size_of want have) (room_of answer space) }
 {
     let length = size(want, have);
     let Check::Good = length else {
@@ -172,9 +172,9 @@ pub fn lent(want: usize, have: usize, answer: usize, space: usize) -> Check
     room(answer, space)
 }
 
-#[tactic(auto, unfolding(crate::specs::Refusals::rangeOf))]
+#[tactic(auto, unfolding(crate::specs::Refusals::range_of))]
 pub fn range(bound: u16, x: u16) -> Check
-    ensures { numberOf result ≡ rangeOf bound x }
+    ensures { number_of result ≡ range_of bound x }
 {
     if x < bound {
         return Check::Good;

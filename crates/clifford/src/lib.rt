@@ -4,15 +4,15 @@
 #![tactic(auto)]
 
 ghost use Rattle.std.specs.Prelude.{◌≡◌, length};
-ghost use Rattle.arith.specs.Units.{leastMultiplier};
+ghost use Rattle.arith.specs.Units.{least_multiplier};
 ghost use Rattle.arith.specs.Answers.{Answered, Written};
-ghost use Rattle.arith.specs.Calls.{multiplierRefusal};
-ghost use Rattle.pauli.specs.Calls.{productRefusal, productBytes, powerRefusal, powerBytes, commutationRefusal, commutationNumber, Supported};
-ghost use Rattle.gates.specs.Calls.{runRefusal, runBytes, ticksRefusal, ticksOf};
+ghost use Rattle.arith.specs.Calls.{multiplier_refusal};
+ghost use Rattle.pauli.specs.Calls.{product_refusal, product_bytes, power_refusal, power_bytes, commutation_refusal, commutation_number, Supported};
+ghost use Rattle.gates.specs.Calls.{run_refusal, run_bytes, ticks_refusal, ticks_of};
 ghost use Rattle.synthesis.specs.Demand3.{Synthesised};
 ghost use Rattle.synthesis.specs.Chosen.{Chosen};
-ghost use Rattle.tableau.specs.Batch.{imagesRefusal, imagesAnswer};
-ghost use Rattle.tableau.specs.Calls.{tableauRefusal, tableauAnswer, imageRefusal, imageAnswer, composeRefusal, composeAnswer, inverseRefusal, inverseAnswer};
+ghost use Rattle.tableau.specs.Batch.{images_refusal, images_answer};
+ghost use Rattle.tableau.specs.Calls.{tableau_refusal, tableau_answer, image_refusal, image_answer, compose_refusal, compose_answer, inverse_refusal, inverse_answer};
 
 use arith::checks::Answer;
 use pauli::calls::SupportAnswer;
@@ -20,7 +20,7 @@ use pauli::calls::SupportAnswer;
 // The least multiplier of a and b: of 0, 1, −1, 2, −2 and on the first that fits, as a residue.
 #[unsafe(no_mangle)]
 pub extern "C" fn clifford_least_multiplier(d: u16, a: u16, b: u16) -> Answer
-    ensures { Answered (multiplierRefusal d a b) (leastMultiplier d a b) result }
+    ensures { Answered (multiplier_refusal d a b) (least_multiplier d a b) result }
 {
     arith::calls::least_multiplier(d, a, b)
 }
@@ -28,7 +28,7 @@ pub extern "C" fn clifford_least_multiplier(d: u16, a: u16, b: u16) -> Answer
 // The product of p and q, in this order.
 #[unsafe(no_mangle)]
 pub extern "C" fn clifford_product(d: u16, n: u16, p: &[u8], q: &[u8], out: &mut [u8]) -> u16
-    ensures { Written (productRefusal d n p.now q.now (length out.old)) (productBytes d n p.now q.now) out.old out.new result }
+    ensures { Written (product_refusal d n p.now q.now (length out.old)) (product_bytes d n p.now q.now) out.old out.new result }
 {
     pauli::calls::product(d, n, p, q, out)
 }
@@ -36,7 +36,7 @@ pub extern "C" fn clifford_product(d: u16, n: u16, p: &[u8], q: &[u8], out: &mut
 // p to the power k.
 #[unsafe(no_mangle)]
 pub extern "C" fn clifford_power(d: u16, n: u16, p: &[u8], k: u16, out: &mut [u8]) -> u16
-    ensures { Written (powerRefusal d n p.now (length out.old)) (powerBytes d n p.now k) out.old out.new result }
+    ensures { Written (power_refusal d n p.now (length out.old)) (power_bytes d n p.now k) out.old out.new result }
 {
     pauli::calls::power(d, n, p, k, out)
 }
@@ -44,7 +44,7 @@ pub extern "C" fn clifford_power(d: u16, n: u16, p: &[u8], k: u16, out: &mut [u8
 // The commutation number of p and q.
 #[unsafe(no_mangle)]
 pub extern "C" fn clifford_commutation(d: u16, n: u16, p: &[u8], q: &[u8]) -> Answer
-    ensures { Answered (commutationRefusal d n p.now q.now) (commutationNumber d n p.now q.now) result }
+    ensures { Answered (commutation_refusal d n p.now q.now) (commutation_number d n p.now q.now) result }
 {
     pauli::calls::commutation(d, n, p, q)
 }
@@ -60,7 +60,7 @@ pub extern "C" fn clifford_support(d: u16, n: u16, p: &[u8]) -> SupportAnswer
 // What the list carries p to.
 #[unsafe(no_mangle)]
 pub extern "C" fn clifford_run(d: u16, n: u16, list: &[u8], p: &[u8], out: &mut [u8]) -> u16
-    ensures { Written (runRefusal d n list.now p.now (length out.old)) (runBytes d n list.now p.now) out.old out.new result }
+    ensures { Written (run_refusal d n list.now p.now (length out.old)) (run_bytes d n list.now p.now) out.old out.new result }
 {
     gates::calls::run(d, n, list, p, out)
 }
@@ -68,7 +68,7 @@ pub extern "C" fn clifford_run(d: u16, n: u16, list: &[u8], p: &[u8], out: &mut 
 // The tableau of the list.
 #[unsafe(no_mangle)]
 pub extern "C" fn clifford_tableau(d: u16, n: u16, list: &[u8], out: &mut [u8]) -> u16
-    ensures { Written (tableauRefusal d n list.now (length out.old)) (tableauAnswer d n list.now) out.old out.new result }
+    ensures { Written (tableau_refusal d n list.now (length out.old)) (tableau_answer d n list.now) out.old out.new result }
 {
     tableau::calls::tableau_of(d, n, list, out)
 }
@@ -85,7 +85,7 @@ pub extern "C" fn clifford_synthesis(d: u16, n: u16, tableau: &[u8], out: &mut [
 // The image of p under the tableau.
 #[unsafe(no_mangle)]
 pub extern "C" fn clifford_image(d: u16, n: u16, tableau: &[u8], p: &[u8], out: &mut [u8]) -> u16
-    ensures { Written (imageRefusal d n tableau.now p.now (length out.old)) (imageAnswer d n tableau.now p.now) out.old out.new result }
+    ensures { Written (image_refusal d n tableau.now p.now (length out.old)) (image_answer d n tableau.now p.now) out.old out.new result }
 {
     tableau::calls::image(d, n, tableau, p, out)
 }
@@ -99,7 +99,7 @@ pub extern "C" fn clifford_images(
     paulis: &[u8],
     out: &mut [u8],
 ) -> u16
-    ensures { Written (imagesRefusal d n tableau.now paulis.now (length out.old)) (imagesAnswer d n tableau.now paulis.now) out.old out.new result }
+    ensures { Written (images_refusal d n tableau.now paulis.now (length out.old)) (images_answer d n tableau.now paulis.now) out.old out.new result }
 {
     tableau::batch::images(d, n, tableau, paulis, out)
 }
@@ -113,7 +113,7 @@ pub extern "C" fn clifford_compose(
     second: &[u8],
     out: &mut [u8],
 ) -> u16
-    ensures { Written (composeRefusal d n first.now second.now (length out.old)) (composeAnswer d n first.now second.now) out.old out.new result }
+    ensures { Written (compose_refusal d n first.now second.now (length out.old)) (compose_answer d n first.now second.now) out.old out.new result }
 {
     tableau::calls::compose(d, n, first, second, out)
 }
@@ -121,7 +121,7 @@ pub extern "C" fn clifford_compose(
 // The tableau that undoes the given one.
 #[unsafe(no_mangle)]
 pub extern "C" fn clifford_inverse(d: u16, n: u16, tableau: &[u8], out: &mut [u8]) -> u16
-    ensures { Written (inverseRefusal d n tableau.now (length out.old)) (inverseAnswer d n tableau.now) out.old out.new result }
+    ensures { Written (inverse_refusal d n tableau.now (length out.old)) (inverse_answer d n tableau.now) out.old out.new result }
 {
     tableau::calls::inverse(d, n, tableau, out)
 }
@@ -129,7 +129,7 @@ pub extern "C" fn clifford_inverse(d: u16, n: u16, tableau: &[u8], out: &mut [u8
 // The ticks of the list, where rows on separate qudits run in the same one: the highest tick used.
 #[unsafe(no_mangle)]
 pub extern "C" fn clifford_ticks(d: u16, n: u16, list: &[u8]) -> Answer
-    ensures { Answered (ticksRefusal d n list.now) (ticksOf list.now) result }
+    ensures { Answered (ticks_refusal d n list.now) (ticks_of list.now) result }
 {
     gates::calls::ticks(d, n, list)
 }

@@ -2,9 +2,9 @@
 use Rattle.std.specs.Prelude.{◌≡◌, ◌⊎◌, ℕ, ◌<◌, List, length, take}
 use Rattle.std.specs.Io.KnownBytes.{Consumes, IsAtEnd}
 use Rattle.std.specs.declared.option.Option.{Option}
-use Rattle.arith.specs.Refusals.{refusalNumber}
+use Rattle.arith.specs.Refusals.{refusal_number}
 use Rattle.arith.specs.declared.checks.Refusal.TheVariants.{Text}
-use Rattle.text.specs.Format.{printRefusal}
+use Rattle.text.specs.Format.{print_refusal}
 use Rattle.text.specs.Convert.{Converts}
 use Rattle.text.specs.declared.Input.{Input}
 use Rattle.text.specs.declared.Input.TheVariants.{Complete, Incomplete}
@@ -16,4 +16,4 @@ ReadIn old new Incomplete buffer = Unit {0}
 
 -- what is written for the bytes that the reader had: what is said of them, or 9 alone where a read failed
 abbrev pub WrittenFor : List ℕ → List ℕ → Type 0
-WrittenFor text output = Converts text output ⊎ (output ≡ printRefusal (refusalNumber Text))
+WrittenFor text output = Converts text output ⊎ (output ≡ print_refusal (refusal_number Text))

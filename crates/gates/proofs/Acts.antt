@@ -5,58 +5,58 @@ use mathlib.Core.Logic.{◌≢◌}
 use Prim.Native.Nat.{ℕ, ◌-◌, ◌<◌}
 use native.Mathlib.Omega.{arith}
 use Rattle.pauli.specs.Pauli.{Pauli}
-use Rattle.pauli.specs.inner.Touched.{Touched, touched, still, OnOne, OnTwo}
-use Rattle.pauli.proofs.Still.{Rests, still-rests, f-still, s-still, a-still, m-still, x-still, z-still, c-still, w-still}
+use Rattle.pauli.specs.Inner.Touched.{Touched, touched, still, OnOne, OnTwo}
+use Rattle.pauli.proofs.Still.{Rests, still_rests, f_still, s_still, a_still, m_still, x_still, z_still, c_still, w_still}
 use Rattle.gates.specs.Row.{apply}
-use Rattle.gates.specs.Written.{WrittenRow, rowOfKind, meant, takesTwo, legalRow}
-use Rattle.gates.specs.inner.View.{otherOf, Acts, ActsAt}
-use Rattle.gates.proofs.Written.{Kind, kind-f, kind-s, kind-a, kind-m, kind-x, kind-z, kind-c, kind-w, legal-sort, legal-first, legal-second}
+use Rattle.gates.specs.Written.{WrittenRow, row_of_kind, meant, takes_two, legal_row}
+use Rattle.gates.specs.Inner.View.{other_of, Acts, ActsAt}
+use Rattle.gates.proofs.Written.{Kind, kind_f, kind_s, kind_a, kind_m, kind_x, kind_z, kind_c, kind_w, legal_sort, legal_first, legal_second_lem}
 
 -- the row of that kind is the row that is meant
-pub of-kind : (d : ℕ) (w : WrittenRow) (kind : ℕ) (p : Pauli) → w.kind ≡ kind → apply d (rowOfKind kind (w.first - 1) (w.second - 1) w.power) p ≡ apply d (meant w) p
+pub of_kind_lem : (d : ℕ) (w : WrittenRow) (kind : ℕ) (p : Pauli) → w.kind ≡ kind → apply d (row_of_kind kind (w.first - 1) (w.second - 1) w.power) p ≡ apply d (meant w) p
 unfolding meant
-of-kind d w kind p e = ap (λ (x : ℕ). apply d (rowOfKind x (w.first - 1) (w.second - 1) w.power) p) (sym e)
+of_kind_lem d w kind p e = ap (λ (x : ℕ). apply d (row_of_kind x (w.first - 1) (w.second - 1) w.power) p) (sym e)
 
 -- the second qudit, by the kind
-pub other-is : (w : WrittenRow) (kind : ℕ) {b : Bool} → w.kind ≡ kind → takesTwo kind ≡ b → cond b (w.second - 1) (w.first - 1) ≡ otherOf w
-other-is w kind e q = sym (ap (λ (x : ℕ). cond (takesTwo x) (w.second - 1) (w.first - 1)) e ∙ ap (λ (b : Bool). cond b (w.second - 1) (w.first - 1)) q)
+pub other_is : (w : WrittenRow) (kind : ℕ) {b : Bool} → w.kind ≡ kind → takes_two kind ≡ b → cond b (w.second - 1) (w.first - 1) ≡ other_of w
+other_is w kind e q = sym (ap (λ (x : ℕ). cond (takes_two x) (w.second - 1) (w.first - 1)) e ∙ ap (λ (b : Bool). cond b (w.second - 1) (w.first - 1)) q)
 
 module _ (d : ℕ) (w : WrittenRow) (kind : ℕ) (e : w.kind ≡ kind) where
-  pub acts-one : {old new : Touched} (effect : ℕ → Pauli → Pauli) → takesTwo kind ≡ false → ((p : Pauli) → apply d (rowOfKind kind (w.first - 1) (w.second - 1) w.power) p ≡ effect (w.first - 1) p) → OnOne effect old new → Acts d w old new
-  acts-one {old} {new} effect one same on = subst (λ (j : ℕ). ActsAt d w (w.first - 1) j old new) (other-is w kind e one)
-      (λ p a b seen. sym (of-kind d w kind p e) ∙ same p ∙ (on (w.first - 1) p a seen).replaces)
+  pub acts_one : {old new : Touched} (effect : ℕ → Pauli → Pauli) → takes_two kind ≡ false → ((p : Pauli) → apply d (row_of_kind kind (w.first - 1) (w.second - 1) w.power) p ≡ effect (w.first - 1) p) → OnOne effect old new → Acts d w old new
+  acts_one {old} {new} effect one same on = subst (λ (j : ℕ). ActsAt d w (w.first - 1) j old new) (other_is w kind e one)
+      (λ p a b seen. sym (of_kind_lem d w kind p e) ∙ same p ∙ (on (w.first - 1) p a seen).replaces)
 
-  pub acts-two : {old new : Touched} (effect : ℕ → ℕ → Pauli → Pauli) → takesTwo kind ≡ true → ((p : Pauli) → apply d (rowOfKind kind (w.first - 1) (w.second - 1) w.power) p ≡ effect (w.first - 1) (w.second - 1) p) → w.first - 1 ≢ w.second - 1 → OnTwo effect old new → Acts d w old new
-  acts-two {old} {new} effect two same apart on = subst (λ (j : ℕ). ActsAt d w (w.first - 1) j old new) (other-is w kind e two)
-      (λ p a b seen. sym (of-kind d w kind p e) ∙ same p ∙ (on (w.first - 1) (w.second - 1) p apart a b seen).replaces)
+  pub acts_two : {old new : Touched} (effect : ℕ → ℕ → Pauli → Pauli) → takes_two kind ≡ true → ((p : Pauli) → apply d (row_of_kind kind (w.first - 1) (w.second - 1) w.power) p ≡ effect (w.first - 1) (w.second - 1) p) → w.first - 1 ≢ w.second - 1 → OnTwo effect old new → Acts d w old new
+  acts_two {old} {new} effect two same apart on = subst (λ (j : ℕ). ActsAt d w (w.first - 1) j old new) (other_is w kind e two)
+      (λ p a b seen. sym (of_kind_lem d w kind p e) ∙ same p ∙ (on (w.first - 1) (w.second - 1) p apart a b seen).replaces)
 
 -- the second qudit of a legal row is one of n
-pub legal-other : (d n : ℕ) (w : WrittenRow) → legalRow d n w ≡ true → otherOf w < n
-legal-other d n w legal = by-kind (takesTwo w.kind) refl
+pub legal_other : (d n : ℕ) (w : WrittenRow) → legal_row d n w ≡ true → other_of w < n
+legal_other d n w legal = by_kind (takes_two w.kind) refl
   where
-    by-kind : (b : Bool) → takesTwo w.kind ≡ b → otherOf w < n
-    by-kind true e = let s = legal-second d n w legal e in subst (λ (j : ℕ). j < n) (other-is w w.kind refl e) (omega arith)
-    by-kind false e = let f = legal-first d n w legal in subst (λ (j : ℕ). j < n) (other-is w w.kind refl e) (omega arith)
+    by_kind : (b : Bool) → takes_two w.kind ≡ b → other_of w < n
+    by_kind true e = let s = legal_second_lem d n w legal e in subst (λ (j : ℕ). j < n) (other_is w w.kind refl e) (omega arith)
+    by_kind false e = let f = legal_first d n w legal in subst (λ (j : ℕ). j < n) (other_is w w.kind refl e) (omega arith)
 
 -- a legal row leaves a Pauli alone whose v and w are 0 at the row's qudits and whose phase is reduced
-pub acts-not : (d n : ℕ) (w : WrittenRow) (p : Pauli) → legalRow d n w ≡ true → still d (touched (w.first - 1) (otherOf w) p) ≡ true → apply d (meant w) p ≡ p
-acts-not d n w p legal e = by-kind (legal-sort d n w legal) refl
+pub acts_not : (d n : ℕ) (w : WrittenRow) (p : Pauli) → legal_row d n w ≡ true → still d (touched (w.first - 1) (other_of w) p) ≡ true → apply d (meant w) p ≡ p
+acts_not d n w p legal e = by_kind (legal_sort d n w legal) refl
   where
     i : ℕ
     i = w.first - 1
 
     first : Rests d i p
-    first = (still-rests d i (otherOf w) p e).0
+    first = (still_rests d i (other_of w) p e).0
 
-    second : (kind : ℕ) → takesTwo kind ≡ true → w.kind ≡ kind → Rests d (w.second - 1) p
-    second kind two q = subst (λ (j : ℕ). Rests d j p) (sym (other-is w kind q two)) (still-rests d i (otherOf w) p e).1
+    second : (kind : ℕ) → takes_two kind ≡ true → w.kind ≡ kind → Rests d (w.second - 1) p
+    second kind two q = subst (λ (j : ℕ). Rests d j p) (sym (other_is w kind q two)) (still_rests d i (other_of w) p e).1
 
-    by-kind : {kind : ℕ} → Kind kind → w.kind ≡ kind → apply d (meant w) p ≡ p
-    by-kind kind-f q = sym (of-kind d w 1 p q) ∙ f-still d i p first w.power
-    by-kind kind-s q = sym (of-kind d w 2 p q) ∙ s-still d i p first w.power
-    by-kind kind-a q = sym (of-kind d w 3 p q) ∙ a-still d i (w.second - 1) p first (second 3 refl q) w.power
-    by-kind kind-m q = sym (of-kind d w 4 p q) ∙ m-still d i p first w.power
-    by-kind kind-x q = sym (of-kind d w 5 p q) ∙ x-still d i p first w.power
-    by-kind kind-z q = sym (of-kind d w 6 p q) ∙ z-still d i p first w.power
-    by-kind kind-c q = sym (of-kind d w 7 p q) ∙ c-still d i (w.second - 1) p first (second 7 refl q) w.power
-    by-kind kind-w q = sym (of-kind d w 8 p q) ∙ w-still d i (w.second - 1) p first (second 8 refl q)
+    by_kind : {kind : ℕ} → Kind kind → w.kind ≡ kind → apply d (meant w) p ≡ p
+    by_kind kind_f q = sym (of_kind_lem d w 1 p q) ∙ f_still d i p first w.power
+    by_kind kind_s q = sym (of_kind_lem d w 2 p q) ∙ s_still d i p first w.power
+    by_kind kind_a q = sym (of_kind_lem d w 3 p q) ∙ a_still d i (w.second - 1) p first (second 3 refl q) w.power
+    by_kind kind_m q = sym (of_kind_lem d w 4 p q) ∙ m_still d i p first w.power
+    by_kind kind_x q = sym (of_kind_lem d w 5 p q) ∙ x_still d i p first w.power
+    by_kind kind_z q = sym (of_kind_lem d w 6 p q) ∙ z_still d i p first w.power
+    by_kind kind_c q = sym (of_kind_lem d w 7 p q) ∙ c_still d i (w.second - 1) p first (second 7 refl q) w.power
+    by_kind kind_w q = sym (of_kind_lem d w 8 p q) ∙ w_still d i (w.second - 1) p first (second 8 refl q)

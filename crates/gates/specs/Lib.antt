@@ -4,4 +4,4 @@ pub mod Written
 pub mod Ticks
 pub mod Calls
 pub mod Schedules
-pub mod inner
+pub mod Inner

@@ -1,9 +1,9 @@
 -- Gate rows and what they do to a Pauli (document 01, "Gate rows"; C and W, document 02, P3). Qudits count from 0 here.
 use Rattle.std.specs.Prelude.{◌≡◌, Bool, false, ◌||◌, List, [], ◌∷◌, ◌≢◌, ℕ, ◌*◌, ◌-◌, ◌≤◌, ◌<◌, eqb}
 use Rattle.arith.specs.Gcd.{gcd}
-use Rattle.arith.specs.Units.{inverseOf}
+use Rattle.arith.specs.Units.{inverse_of}
 use Rattle.pauli.specs.Pauli.{Pauli}
-use Rattle.pauli.specs.Effects.{effectF, effectS, effectA, effectM, effectX, effectZ, effectC, effectW}
+use Rattle.pauli.specs.Effects.{effect_f, effect_s, effect_a, effect_m, effect_x, effect_z, effect_c, effect_w}
 
 pub data Row : Type 0 where
   F : ℕ → ℕ → Row  -- qudit, power
@@ -17,12 +17,12 @@ pub data Row : Type 0 where
 
 pub record OneQudit (n i low k high : ℕ) : Type 0 where
   pub qudit : i < n
-  pub power-low : low ≤ k
-  pub power-high : k ≤ high
+  pub power_low : low ≤ k
+  pub power_high : k ≤ high
 
 pub record TwoQudits (n i j : ℕ) : Type 0 where
-  pub from-qudit : i < n
-  pub to-qudit : j < n
+  pub from_qudit : i < n
+  pub to_qudit : j < n
   pub apart : i ≢ j
 
 abbrev pub Legal : ℕ → ℕ → Row → Type 0
@@ -36,15 +36,15 @@ Legal d n (C i j k) = TwoQudits n i j × OneQudit n i 1 k (d - 1)
 Legal d n (W i j) = TwoQudits n i j
 
 -- the qudits that a row uses: its first, and its second where its kind takes two
-abbrev pub quditsOf : Row → List ℕ
-quditsOf (F i k) = i ∷ []
-quditsOf (S i k) = i ∷ []
-quditsOf (A i j k) = i ∷ j ∷ []
-quditsOf (M i k) = i ∷ []
-quditsOf (X i k) = i ∷ []
-quditsOf (Z i k) = i ∷ []
-quditsOf (C i j k) = i ∷ j ∷ []
-quditsOf (W i j) = i ∷ j ∷ []
+abbrev pub qudits_of : Row → List ℕ
+qudits_of (F i k) = i ∷ []
+qudits_of (S i k) = i ∷ []
+qudits_of (A i j k) = i ∷ j ∷ []
+qudits_of (M i k) = i ∷ []
+qudits_of (X i k) = i ∷ []
+qudits_of (Z i k) = i ∷ []
+qudits_of (C i j k) = i ∷ j ∷ []
+qudits_of (W i j) = i ∷ j ∷ []
 
 -- whether q is one of these
 abbrev pub among : ℕ → List ℕ → Bool
@@ -53,18 +53,18 @@ among q (i ∷ is) = eqb q i || among q is
 
 -- whether the row uses qudit q
 abbrev pub uses : Row → ℕ → Bool
-uses r q = among q (quditsOf r)
+uses r q = among q (qudits_of r)
 
 -- what a row does to a Pauli: the effect of its kind
 abbrev pub apply : ℕ → Row → Pauli → Pauli
-apply d (F i k) p = effectF d i k p
-apply d (S i k) p = effectS d i k p
-apply d (A i j k) p = effectA d i j k p
-apply d (M i k) p = effectM d i k p
-apply d (X i k) p = effectX d i k p
-apply d (Z i k) p = effectZ d i k p
-apply d (C i j k) p = effectC d i j k p
-apply d (W i j) p = effectW i j p
+apply d (F i k) p = effect_f d i k p
+apply d (S i k) p = effect_s d i k p
+apply d (A i j k) p = effect_a d i j k p
+apply d (M i k) p = effect_m d i k p
+apply d (X i k) p = effect_x d i k p
+apply d (Z i k) p = effect_z d i k p
+apply d (C i j k) p = effect_c d i j k p
+apply d (W i j) p = effect_w i j p
 
 -- what a list carries a Pauli to: the first row first
 abbrev pub run : ℕ → List Row → Pauli → Pauli
@@ -80,7 +80,7 @@ abbrev pub undo : ℕ → Row → Row
 undo d (F i k) = F i (4 - k)
 undo d (S i k) = S i (2 * d - k)
 undo d (A i j k) = A i j (d - k)
-undo d (M i k) = M i (inverseOf d k)
+undo d (M i k) = M i (inverse_of d k)
 undo d (X i k) = X i (d - k)
 undo d (Z i k) = Z i (d - k)
 undo d (C i j k) = C i j (d - k)

@@ -4,8 +4,8 @@ use Rattle.pauli.specs.Support.{total}
 use Rattle.gates.specs.Row.{Row, uses}
 
 -- the number of rows that qudit q takes part in
-abbrev pub rowsOn : ℕ → List Row → ℕ
-rowsOn q rs = total (map (λ r. cond (uses r q) 1 0) rs)
+abbrev pub rows_on : ℕ → List Row → ℕ
+rows_on q rs = total (map (λ r. cond (uses r q) 1 0) rs)
 
 -- P holds of every row of a list
 abbrev pub Every : (Row → Type 0) → List Row → Type 0
@@ -33,5 +33,5 @@ pub data Schedule : List Row → List ℕ → Type 0 where
 
 -- of two runs of ticks as long, none of the first is later than the one at its place in the second
 pub data NoLater : List ℕ → List ℕ → Type 0 where
-  no-ticks : NoLater [] []
-  a-tick : {s t : ℕ} {ss ts : List ℕ} → s ≤ t → NoLater ss ts → NoLater (s ∷ ss) (t ∷ ts)
+  no_ticks : NoLater [] []
+  a_tick : {s t : ℕ} {ss ts : List ℕ} → s ≤ t → NoLater ss ts → NoLater (s ∷ ss) (t ∷ ts)

@@ -1,15 +1,15 @@
 // The public calls on lists.
 ghost use Rattle.std.specs.Prelude.{◌≡◌, length};
-ghost use Rattle.arith.specs.Refusals.{numberOf};
+ghost use Rattle.arith.specs.Refusals.{number_of};
 ghost use Rattle.arith.specs.Answers.{Answered, Written};
-ghost use Rattle.gates.specs.Calls.{runRefusal, runBytes, ticksRefusal, ticksOf};
+ghost use Rattle.gates.specs.Calls.{run_refusal, run_bytes, ticks_refusal, ticks_of};
 
 use arith::checks::{Answer, Check};
 use pauli::Pauli;
 
 // 1, 2, then 3 of the list and of the Pauli, 4 of an output of so many bytes, 5 of the Pauli, 6 of the list.
 fn run_check(d: u16, n: u16, list: &[u8], p: &[u8], room: usize) -> Check
-    ensures { numberOf result ≡ runRefusal d n list.now p.now room }
+    ensures { number_of result ≡ run_refusal d n list.now p.now room }
 {
     let of_rows = arith::checks::given_list(d, n, list.len());
     let Check::Good = of_rows else {
@@ -29,7 +29,7 @@ fn run_check(d: u16, n: u16, list: &[u8], p: &[u8], room: usize) -> Check
 
 // A list run on a Pauli.
 pub fn run(d: u16, n: u16, list: &[u8], p: &[u8], out: &mut [u8]) -> u16
-    ensures { Written (runRefusal d n list.now p.now (length out.old)) (runBytes d n list.now p.now) out.old out.new result }
+    ensures { Written (run_refusal d n list.now p.now (length out.old)) (run_bytes d n list.now p.now) out.old out.new result }
 {
     let found = run_check(d, n, list, p, out.len());
     let Check::Good = found else {
@@ -43,7 +43,7 @@ pub fn run(d: u16, n: u16, list: &[u8], p: &[u8], out: &mut [u8]) -> u16
 
 // 1, 2, then 3 and 6 of the list.
 fn ticks_check(d: u16, n: u16, list: &[u8]) -> Check
-    ensures { numberOf result ≡ ticksRefusal d n list.now }
+    ensures { number_of result ≡ ticks_refusal d n list.now }
 {
     let of_list = arith::checks::given_list(d, n, list.len());
     let Check::Good = of_list else {
@@ -54,7 +54,7 @@ fn ticks_check(d: u16, n: u16, list: &[u8]) -> Check
 
 // The ticks of a list.
 pub fn ticks(d: u16, n: u16, list: &[u8]) -> Answer
-    ensures { Answered (ticksRefusal d n list.now) (ticksOf list.now) result }
+    ensures { Answered (ticks_refusal d n list.now) (ticks_of list.now) result }
 {
     let found = ticks_check(d, n, list);
     let Check::Good = found else {

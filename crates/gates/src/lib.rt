@@ -5,11 +5,11 @@
 ghost use Rattle.std.specs.Prelude.{◌≡◌, true, false, ℕ, ◌≤◌, ◌<◌};
 ghost use Rattle.arith.specs.Refusals.{Dimension};
 ghost use Rattle.arith.specs.Units.{IsUnit};
-ghost use Rattle.pauli.specs.inner.View.{view, WordTrue};
-ghost use Rattle.pauli.specs.inner.Touched.{viewTouched};
+ghost use Rattle.pauli.specs.Inner.View.{view, WordTrue};
+ghost use Rattle.pauli.specs.Inner.Touched.{view_touched};
 ghost use Rattle.gates.specs.Row.{apply, undo};
-ghost use Rattle.gates.specs.Written.{withPower, written, meant, between, highest, takesTwo, legalPower, legalSecond, legalRow};
-ghost use Rattle.gates.specs.inner.View.{viewRow, InverseRight, otherOf, Acts};
+ghost use Rattle.gates.specs.Written.{with_power, written, meant, between, highest, takes_two, legal_power, legal_second, legal_row};
+ghost use Rattle.gates.specs.Inner.View.{view_row, InverseRight, other_of, Acts};
 
 use arith::residue::{Power, Residue};
 use pauli::Pauli;
@@ -56,7 +56,7 @@ pub fn highest_power(kind: u16, d: u16) -> u16
 
 // Whether the kind takes a second qudit: A, C and W.
 pub fn takes_two(kind: u16) -> bool
-    ensures { result ≡ takesTwo kind }
+    ensures { result ≡ takes_two kind }
 {
     matches!(kind, 3 | 7 | 8)
 }
@@ -65,7 +65,7 @@ impl Row {
     // The power is 1 to the kind's highest, for M a unit.
     fn legal_power(self, d: u16) -> bool
         requires { Dimension d }
-        ensures { result ≡ legalPower d self.kind self.power }
+        ensures { result ≡ legal_power d self.kind self.power }
     {
         let high = highest_power(self.kind, d) as usize;
         within(1, high, self.power as usize)
@@ -74,7 +74,7 @@ impl Row {
 
     // The second qudit is 0, or for A, C and W is 1 to n and not the first.
     fn legal_second(self, n: usize) -> bool
-        ensures { result ≡ legalSecond n self.kind self.first self.second }
+        ensures { result ≡ legal_second n self.kind self.first self.second }
     {
         if takes_two(self.kind) {
             return within(1, n, self.second as usize) && self.second != self.first;
@@ -83,25 +83,25 @@ impl Row {
     }
 
     // Whether the row is legal.
-    #[tactic(auto, unfolding(crate::specs::Written::legalRow))]
+    #[tactic(auto, unfolding(crate::specs::Written::legal_row))]
     pub fn legal(self, d: u16, n: usize) -> bool
         requires { Dimension d }
-        ensures { result ≡ legalRow d n (viewRow self) }
+        ensures { result ≡ legal_row d n (view_row self) }
     {
         self.legal_power(d) && within(1, n, self.first as usize) && self.legal_second(n)
     }
 
     // The same row with another power.
     fn with_power(self, k: u16) -> Row
-        ensures { viewRow result ≡ withPower (viewRow self) k }
+        ensures { view_row result ≡ with_power (view_row self) k }
     {
         Row { power: k, ..self }
     }
 
     // The row that undoes a legal one: the two powers add up to one more than the kind's highest, but for M, whose power is inverted.
     pub fn undo(self, d: u16) -> Row
-        requires { Dimension d × ((n : ℕ) × (legalRow d n (viewRow self) ≡ true)) }
-        ensures { viewRow result ≡ written (undo d (meant (viewRow self))) }
+        requires { Dimension d × ((n : ℕ) × (legal_row d n (view_row self) ≡ true)) }
+        ensures { view_row result ≡ written (undo d (meant (view_row self))) }
     {
         match self.kind {
             4 => self.with_power(arith::divisor::inverse(Residue::below(self.power, d), d).value()),
@@ -111,8 +111,8 @@ impl Row {
 
     // The second qudit, counted from 0: the first again where the kind takes one.
     pub fn other(self) -> usize
-        requires { (1 ≤ self.first) × (takesTwo self.kind ≡ true → 1 ≤ self.second) }
-        ensures { result ≡ otherOf (viewRow self) }
+        requires { (1 ≤ self.first) × (takes_two self.kind ≡ true → 1 ≤ self.second) }
+        ensures { result ≡ other_of (view_row self) }
     {
         if takes_two(self.kind) {
             return self.second as usize - 1;
@@ -140,8 +140,8 @@ impl Row {
     // What the row makes of the Pauli. Its kind is asked by one test after the other: a jump on it, which a match is compiled to, takes longer where a list is run again.
     pub fn apply(self, p: Pauli, d: u16, n: usize) -> Pauli
         requires dimension { Dimension d × (n ≤ 16) }
-        requires legal { legalRow d n (viewRow self) ≡ true }
-        ensures value { view n result ≡ apply d (meant (viewRow self)) (view n p) }
+        requires legal { legal_row d n (view_row self) ≡ true }
+        ensures value { view n result ≡ apply d (meant (view_row self)) (view n p) }
         ensures word { WordTrue n p → WordTrue n result }
     {
         let kind = self.kind;
@@ -178,8 +178,8 @@ impl Ready {
     // A kind on one qudit: F, S, M, X or Z.
     pub fn act_one(self, t: Touched, d: u16) -> Touched
         requires dimension { Dimension d × InverseRight d self }
-        requires legal { ((n : ℕ) × (legalRow d n (viewRow self.row) ≡ true)) × (takesTwo self.row.kind ≡ false) }
-        ensures { Acts d (viewRow self.row) (viewTouched t) (viewTouched result) }
+        requires legal { ((n : ℕ) × (legal_row d n (view_row self.row) ≡ true)) × (takes_two self.row.kind ≡ false) }
+        ensures { Acts d (view_row self.row) (view_touched t) (view_touched result) }
     {
         let row = self.row;
         let kind = row.kind;
@@ -202,8 +202,8 @@ impl Ready {
     // A kind on two: A, C or W.
     pub fn act_two(self, t: Touched, d: u16) -> Touched
         requires dimension { Dimension d }
-        requires legal { ((n : ℕ) × (legalRow d n (viewRow self.row) ≡ true)) × (takesTwo self.row.kind ≡ true) }
-        ensures { Acts d (viewRow self.row) (viewTouched t) (viewTouched result) }
+        requires legal { ((n : ℕ) × (legal_row d n (view_row self.row) ≡ true)) × (takes_two self.row.kind ≡ true) }
+        ensures { Acts d (view_row self.row) (view_touched t) (view_touched result) }
     {
         let row = self.row;
         let kind = row.kind;

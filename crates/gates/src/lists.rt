@@ -1,11 +1,11 @@
 // Lists of rows in bytes, 8 bytes a row.
 ghost use Rattle.std.specs.Prelude.{◌≡◌, true, ℕ, ◌+◌, ◌*◌, ◌/◌, ◌≤◌, ◌<◌, length};
-ghost use Rattle.arith.specs.Refusals.{Dimension, numberOf, rowOf};
-ghost use Rattle.pauli.specs.inner.View.{view, WordTrue};
+ghost use Rattle.arith.specs.Refusals.{Dimension, number_of, row_of};
+ghost use Rattle.pauli.specs.Inner.View.{view, WordTrue};
 ghost use Rattle.gates.specs.Row.{apply, run};
 ghost use Rattle.gates.specs.Ticks.{ticks};
-ghost use Rattle.gates.specs.Written.{meant, rowAt, listRows, rowsOf, allLegalRows};
-ghost use Rattle.gates.specs.inner.View.{viewRow};
+ghost use Rattle.gates.specs.Written.{meant, row_at, list_rows, rows_of, all_legal_rows};
+ghost use Rattle.gates.specs.Inner.View.{view_row};
 
 use crate::Row;
 use arith::checks::{Check, Refusal};
@@ -15,7 +15,7 @@ use pauli::Pauli;
 // Row r of the bytes.
 pub fn read_row(b: &[u8], r: usize) -> Row
     requires { 8 * r + 8 ≤ length b.now }
-    ensures { viewRow result ≡ rowAt b.now r }
+    ensures { view_row result ≡ row_at b.now r }
 {
     Row {
         kind: arith::numbers::get(b, 4 * r),
@@ -28,7 +28,7 @@ pub fn read_row(b: &[u8], r: usize) -> Row
 // 6, row: a row of the list isn't legal.
 pub fn list_legal(list: &[u8], d: u16, n: usize) -> Check
     requires { Dimension d }
-    ensures { numberOf result ≡ rowOf (allLegalRows d n (listRows list.now)) }
+    ensures { number_of result ≡ row_of (all_legal_rows d n (list_rows list.now)) }
 {
     let rows = list.len() / 8;
     for r in 0..rows {
@@ -43,8 +43,8 @@ pub fn list_legal(list: &[u8], d: u16, n: usize) -> Check
 // What row r of the list makes of the Pauli.
 fn run_row(list: &[u8], r: usize, p: Pauli, d: u16, n: usize) -> Pauli
     requires dimension { Dimension d × ((n ≤ 16) × (r < length list.now / 8)) }
-    requires legal { allLegalRows d n (listRows list.now) ≡ true }
-    ensures value { view n result ≡ apply d (meant (rowAt list.now r)) (view n p) }
+    requires legal { all_legal_rows d n (list_rows list.now) ≡ true }
+    ensures value { view n result ≡ apply d (meant (row_at list.now r)) (view n p) }
     ensures word { WordTrue n p → WordTrue n result }
 {
     read_row(list, r).apply(p, d, n)
@@ -53,8 +53,8 @@ fn run_row(list: &[u8], r: usize, p: Pauli, d: u16, n: usize) -> Pauli
 // What the list carries the Pauli to: each row takes what the one before it handed on.
 pub fn run_list(list: &[u8], p: Pauli, d: u16, n: usize) -> Pauli
     requires dimension { Dimension d × (n ≤ 16) }
-    requires legal { allLegalRows d n (listRows list.now) ≡ true }
-    ensures value { view n result ≡ run d (rowsOf list.now) (view n p) }
+    requires legal { all_legal_rows d n (list_rows list.now) ≡ true }
+    ensures value { view n result ≡ run d (rows_of list.now) (view n p) }
     ensures word { WordTrue n p → WordTrue n result }
 {
     let count = list.len() / 8;
@@ -68,8 +68,8 @@ pub fn run_list(list: &[u8], p: Pauli, d: u16, n: usize) -> Pauli
 // The highest tick used by a list. `last` has the last tick used by each qudit; for a kind on one qudit i and j are that one.
 pub fn list_ticks(list: &[u8]) -> u16
     requires size { length list.now ≤ 8 * 4096 }
-    requires legal { (d : ℕ) × ((n : ℕ) × ((n ≤ 16) × (allLegalRows d n (listRows list.now) ≡ true))) }
-    ensures { result ≡ ticks (rowsOf list.now) }
+    requires legal { (d : ℕ) × ((n : ℕ) × ((n ≤ 16) × (all_legal_rows d n (list_rows list.now) ≡ true))) }
+    ensures { result ≡ ticks (rows_of list.now) }
 {
     let rows = list.len() / 8;
     let mut last: [u16; 16] = [0; 16];

@@ -12,31 +12,31 @@ module _ (d k : ℕ) (large : 2 ≤ d) where
   pos : 0 < d
   pos = omega arith
 
-  pub z-phase : (δ x : ℕ) → Cong (2 * d) (δ + 2 * (k * x % d) % (2 * d)) (δ + 2 * (k * x))
-  z-phase δ x = ring₂ d (k ∷ δ ∷ x ∷ []) pos (search quote depth 30) (search quote depth 30) tt
+  pub z_phase : (δ x : ℕ) → Cong (2 * d) (δ + 2 * (k * x % d) % (2 * d)) (δ + 2 * (k * x))
+  z_phase δ x = ring₂ d (k ∷ δ ∷ x ∷ []) pos (search quote depth 30) (search quote depth 30) tt
 
-  pub x-phase : (δ x : ℕ) → Cong (2 * d) (δ + neg (2 * d) (2 * (k * x % d) % (2 * d))) (δ + neg (2 * d) (2 * (k * x)))
-  x-phase δ x = ring₂ d (k ∷ δ ∷ x ∷ []) pos (search quote depth 30) (search quote depth 30) tt
+  pub x_phase : (δ x : ℕ) → Cong (2 * d) (δ + neg (2 * d) (2 * (k * x % d) % (2 * d))) (δ + neg (2 * d) (2 * (k * x)))
+  x_phase δ x = ring₂ d (k ∷ δ ∷ x ∷ []) pos (search quote depth 30) (search quote depth 30) tt
 
-  pub s-phase : (δ x : ℕ) → Cong (2 * d) (δ + k * (x * (x + d)) % (2 * d)) (δ + k * (x * (x + d)))
-  s-phase δ x = ring₂ d (k ∷ δ ∷ x ∷ []) pos (search quote depth 30) (search quote depth 30) tt
+  pub s_phase : (δ x : ℕ) → Cong (2 * d) (δ + k * (x * (x + d)) % (2 * d)) (δ + k * (x * (x + d)))
+  s_phase δ x = ring₂ d (k ∷ δ ∷ x ∷ []) pos (search quote depth 30) (search quote depth 30) tt
 
-  pub c-phase : (δ x y : ℕ) → Cong (2 * d) (δ + 2 * ((k * x % d) * y % d) % (2 * d)) (δ + 2 * (k * (x * y)))
-  c-phase δ x y = ring₂ d (k ∷ δ ∷ x ∷ y ∷ []) pos (search quote depth 30) (search quote depth 30) tt
+  pub c_phase : (δ x y : ℕ) → Cong (2 * d) (δ + 2 * ((k * x % d) * y % d) % (2 * d)) (δ + 2 * (k * (x * y)))
+  c_phase δ x y = ring₂ d (k ∷ δ ∷ x ∷ y ∷ []) pos (search quote depth 30) (search quote depth 30) tt
 
-  pub plus-entry : (y x : ℕ) → Cong d (y + k * x % d) (y + k * x)
-  plus-entry y x = ring₁ d (k ∷ y ∷ x ∷ []) pos (search quote depth 30) (search quote depth 30) tt
+  pub plus_entry : (y x : ℕ) → Cong d (y + k * x % d) (y + k * x)
+  plus_entry y x = ring₁ d (k ∷ y ∷ x ∷ []) pos (search quote depth 30) (search quote depth 30) tt
 
-  pub minus-entry : (y x : ℕ) → Cong d (y + neg d (k * x % d)) (y + neg d (k * x))
-  minus-entry y x = ring₁ d (k ∷ y ∷ x ∷ []) pos (search quote depth 30) (search quote depth 30) tt
+  pub minus_entry : (y x : ℕ) → Cong d (y + neg d (k * x % d)) (y + neg d (k * x))
+  minus_entry y x = ring₁ d (k ∷ y ∷ x ∷ []) pos (search quote depth 30) (search quote depth 30) tt
 
 -- the phases that F adds when done twice cancel
-pub half-turn-phase : (d δ x z : ℕ) → 2 ≤ d → Cong (2 * d) ((δ + neg (2 * d) (2 * (x * z))) % (2 * d) + neg (2 * d) (2 * ((neg d z % d) * x))) δ
-half-turn-phase d δ x z large = ring₂ d (δ ∷ x ∷ z ∷ []) (omega arith) (search quote depth 30) (search quote depth 30) tt
+pub half_turn_phase : (d δ x z : ℕ) → 2 ≤ d → Cong (2 * d) ((δ + neg (2 * d) (2 * (x * z))) % (2 * d) + neg (2 * d) (2 * ((neg d z % d) * x))) δ
+half_turn_phase d δ x z large = ring₂ d (δ ∷ x ∷ z ∷ []) (omega arith) (search quote depth 30) (search quote depth 30) tt
 
 -- the difference of two reduced sums is that of the sums
-reduced-difference : (d x y : ℕ) → 0 < d → Cong d (x % d + neg d (y % d)) (x + neg d y)
-reduced-difference d x y pos = ring₁ d (x ∷ y ∷ []) pos (search quote depth 30) (search quote depth 30) tt
+reduced_difference : (d x y : ℕ) → 0 < d → Cong d (x % d + neg d (y % d)) (x + neg d y)
+reduced_difference d x y pos = ring₁ d (x ∷ y ∷ []) pos (search quote depth 30) (search quote depth 30) tt
 
-pub commutation-number : (d : ℕ) {r p q s t x y : ℕ} → 0 < d → r ≡ (p + neg d q) % d → p ≡ s % d → q ≡ t % d → s ≡ x → t ≡ y → r ≡ (x + neg d y) % d
-commutation-number d {x = x} {y} pos e f g h k = rw (e, f, g, h, k) (reduced-difference d x y pos).same
+pub commutation_number_lem : (d : ℕ) {r p q s t x y : ℕ} → 0 < d → r ≡ (p + neg d q) % d → p ≡ s % d → q ≡ t % d → s ≡ x → t ≡ y → r ≡ (x + neg d y) % d
+commutation_number_lem d {x = x} {y} pos e f g h k = rw (e, f, g, h, k) (reduced_difference d x y pos).same

@@ -2,72 +2,72 @@
 -- what the call's refusal is where the check refuses and past the check, and what holds of the bytes then. Assumes nothing.
 use mathlib.Core.Path.{◌≡◌, sym, ap, ◌∙◌}
 use Prim.Native.Nat.{ℕ, ◌≤◌}
-use Rattle.arith.specs.Refusals.{orElse, givenOf, sizeOf, roomOf}
-use Rattle.arith.proofs.Refusals.{Given, orElse-none, orElse-skip, orElse-assoc, given-good, size-good, room-good}
-use Rattle.pauli.specs.Bytes.{pauliBytes}
+use Rattle.arith.specs.Refusals.{or_else, given_of, size_of, room_of}
+use Rattle.arith.proofs.Refusals.{Given, or_else_none, or_else_skip, or_else_assoc, given_good, size_good, room_good}
+use Rattle.pauli.specs.Bytes.{pauli_bytes}
 
 -- ---- one more refusal, after s
-pub past : (s x : ℕ) {all : ℕ} → orElse s x ≡ all → s ≡ 0 → all ≡ x
-past s x e f = sym e ∙ orElse-skip x f
+pub past : (s x : ℕ) {all : ℕ} → or_else s x ≡ all → s ≡ 0 → all ≡ x
+past s x e f = sym e ∙ or_else_skip x f
 
-after-three : (a b c x : ℕ) → orElse (orElse a (orElse b c)) x ≡ orElse a (orElse b (orElse c x))
-after-three a b c x = orElse-assoc a (orElse b c) x ∙ ap (orElse a) (orElse-assoc b c x)
+after_three : (a b c x : ℕ) → or_else (or_else a (or_else b c)) x ≡ or_else a (or_else b (or_else c x))
+after_three a b c x = or_else_assoc a (or_else b c) x ∙ ap (or_else a) (or_else_assoc b c x)
 
-after-four : (a b c e x : ℕ) → orElse (orElse a (orElse b (orElse c e))) x ≡ orElse a (orElse b (orElse c (orElse e x)))
-after-four a b c e x = orElse-assoc a (orElse b (orElse c e)) x ∙ ap (orElse a) (after-three b c e x)
+after_four : (a b c e x : ℕ) → or_else (or_else a (or_else b (or_else c e))) x ≡ or_else a (or_else b (or_else c (or_else e x)))
+after_four a b c e x = or_else_assoc a (or_else b (or_else c e)) x ∙ ap (or_else a) (after_three b c e x)
 
 -- ---- a Pauli of p bytes: 1, 2, 3
 module _ (d n p : ℕ) where
   abbrev pub one : ℕ
-  one = orElse (givenOf d n) (sizeOf (pauliBytes n) p)
+  one = or_else (given_of d n) (size_of (pauli_bytes n) p)
 
-  pub after-one : (x : ℕ) → orElse one x ≡ orElse (givenOf d n) (orElse (sizeOf (pauliBytes n) p) x)
-  after-one = orElse-assoc (givenOf d n) (sizeOf (pauliBytes n) p)
+  pub after_one : (x : ℕ) → or_else one x ≡ or_else (given_of d n) (or_else (size_of (pauli_bytes n) p) x)
+  after_one = or_else_assoc (given_of d n) (size_of (pauli_bytes n) p)
 
-  pub one-lent : one ≡ 0 → Given d n × (p ≡ pauliBytes n)
-  one-lent e = let x = orElse-none (givenOf d n) (sizeOf (pauliBytes n) p) e in (given-good x.0, size-good x.1)
+  pub one_lent : one ≡ 0 → Given d n × (p ≡ pauli_bytes n)
+  one_lent e = let x = or_else_none (given_of d n) (size_of (pauli_bytes n) p) e in (given_good x.0, size_good x.1)
 
 -- ---- two Paulis of p and q bytes: 1, 2, 3 of each
 module _ (d n p q : ℕ) where
   abbrev pub pair : ℕ
-  pair = orElse (givenOf d n) (orElse (sizeOf (pauliBytes n) p) (sizeOf (pauliBytes n) q))
+  pair = or_else (given_of d n) (or_else (size_of (pauli_bytes n) p) (size_of (pauli_bytes n) q))
 
-  pub after-pair : (x : ℕ) → orElse pair x ≡ orElse (givenOf d n) (orElse (sizeOf (pauliBytes n) p) (orElse (sizeOf (pauliBytes n) q) x))
-  after-pair = after-three (givenOf d n) (sizeOf (pauliBytes n) p) (sizeOf (pauliBytes n) q)
+  pub after_pair : (x : ℕ) → or_else pair x ≡ or_else (given_of d n) (or_else (size_of (pauli_bytes n) p) (or_else (size_of (pauli_bytes n) q) x))
+  after_pair = after_three (given_of d n) (size_of (pauli_bytes n) p) (size_of (pauli_bytes n) q)
 
-  pub pair-lent : pair ≡ 0 → Given d n × ((p ≡ pauliBytes n) × (q ≡ pauliBytes n))
-  pair-lent e =
-      let x = orElse-none (givenOf d n) (orElse (sizeOf (pauliBytes n) p) (sizeOf (pauliBytes n) q)) e in
-      let y = orElse-none (sizeOf (pauliBytes n) p) (sizeOf (pauliBytes n) q) x.1 in
-      (given-good x.0, (size-good y.0, size-good y.1))
+  pub pair_lent : pair ≡ 0 → Given d n × ((p ≡ pauli_bytes n) × (q ≡ pauli_bytes n))
+  pair_lent e =
+      let x = or_else_none (given_of d n) (or_else (size_of (pauli_bytes n) p) (size_of (pauli_bytes n) q)) e in
+      let y = or_else_none (size_of (pauli_bytes n) p) (size_of (pauli_bytes n) q) x.1 in
+      (given_good x.0, (size_good y.0, size_good y.1))
 
 -- ---- a Pauli of p bytes and an output: 1, 2, 3, 4
 module _ (d n p room : ℕ) where
   abbrev pub output : ℕ
-  output = orElse (givenOf d n) (orElse (sizeOf (pauliBytes n) p) (roomOf (pauliBytes n) room))
+  output = or_else (given_of d n) (or_else (size_of (pauli_bytes n) p) (room_of (pauli_bytes n) room))
 
-  pub after-output : (x : ℕ) → orElse output x ≡ orElse (givenOf d n) (orElse (sizeOf (pauliBytes n) p) (orElse (roomOf (pauliBytes n) room) x))
-  after-output = after-three (givenOf d n) (sizeOf (pauliBytes n) p) (roomOf (pauliBytes n) room)
+  pub after_output : (x : ℕ) → or_else output x ≡ or_else (given_of d n) (or_else (size_of (pauli_bytes n) p) (or_else (room_of (pauli_bytes n) room) x))
+  after_output = after_three (given_of d n) (size_of (pauli_bytes n) p) (room_of (pauli_bytes n) room)
 
-  pub output-lent : output ≡ 0 → Given d n × ((p ≡ pauliBytes n) × (pauliBytes n ≤ room))
-  output-lent e =
-      let x = orElse-none (givenOf d n) (orElse (sizeOf (pauliBytes n) p) (roomOf (pauliBytes n) room)) e in
-      let y = orElse-none (sizeOf (pauliBytes n) p) (roomOf (pauliBytes n) room) x.1 in
-      (given-good x.0, (size-good y.0, room-good y.1))
+  pub output_lent : output ≡ 0 → Given d n × ((p ≡ pauli_bytes n) × (pauli_bytes n ≤ room))
+  output_lent e =
+      let x = or_else_none (given_of d n) (or_else (size_of (pauli_bytes n) p) (room_of (pauli_bytes n) room)) e in
+      let y = or_else_none (size_of (pauli_bytes n) p) (room_of (pauli_bytes n) room) x.1 in
+      (given_good x.0, (size_good y.0, room_good y.1))
 
 -- ---- two Paulis and an output: 1, 2, 3 of each, 4
 module _ (d n p q room : ℕ) where
-  abbrev pub pairOutput : ℕ
-  pairOutput = orElse (givenOf d n) (orElse (sizeOf (pauliBytes n) p) (orElse (sizeOf (pauliBytes n) q) (roomOf (pauliBytes n) room)))
+  abbrev pub pair_output : ℕ
+  pair_output = or_else (given_of d n) (or_else (size_of (pauli_bytes n) p) (or_else (size_of (pauli_bytes n) q) (room_of (pauli_bytes n) room)))
 
-  pub after-pairOutput : (x : ℕ) → orElse pairOutput x ≡ orElse (givenOf d n) (orElse (sizeOf (pauliBytes n) p) (orElse (sizeOf (pauliBytes n) q) (orElse (roomOf (pauliBytes n) room) x)))
-  after-pairOutput = after-four (givenOf d n) (sizeOf (pauliBytes n) p) (sizeOf (pauliBytes n) q) (roomOf (pauliBytes n) room)
+  pub after_pair_output : (x : ℕ) → or_else pair_output x ≡ or_else (given_of d n) (or_else (size_of (pauli_bytes n) p) (or_else (size_of (pauli_bytes n) q) (or_else (room_of (pauli_bytes n) room) x)))
+  after_pair_output = after_four (given_of d n) (size_of (pauli_bytes n) p) (size_of (pauli_bytes n) q) (room_of (pauli_bytes n) room)
 
-  pub pairOutput-lent : pairOutput ≡ 0 → Given d n × ((p ≡ pauliBytes n) × ((q ≡ pauliBytes n) × (pauliBytes n ≤ room)))
-  pairOutput-lent e =
-      let x = orElse-none (pair d n p q) (roomOf (pauliBytes n) room) (after-pair d n p q (roomOf (pauliBytes n) room) ∙ e) in
-      let y = pair-lent d n p q x.0 in
-      (y.0, (y.1.0, (y.1.1, room-good x.1)))
+  pub pair_output_lent : pair_output ≡ 0 → Given d n × ((p ≡ pauli_bytes n) × ((q ≡ pauli_bytes n) × (pauli_bytes n ≤ room)))
+  pair_output_lent e =
+      let x = or_else_none (pair d n p q) (room_of (pauli_bytes n) room) (after_pair d n p q (room_of (pauli_bytes n) room) ∙ e) in
+      let y = pair_lent d n p q x.0 in
+      (y.0, (y.1.0, (y.1.1, room_good x.1)))
 
 -- ---- the four together, for the proofs of the calls
-pub ruleset lent = (one-lent, pair-lent, output-lent, pairOutput-lent)
+pub ruleset lent = (one_lent, pair_lent, output_lent, pair_output_lent)

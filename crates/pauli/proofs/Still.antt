@@ -8,88 +8,88 @@ use lib.ListN.{get_or, set}
 use lib.Dec.{eqb, ltb}
 use borrow.Author.Tests.{eqb-true, ltb-true}
 use Rattle.arith.specs.Residues.{neg}
-use Rattle.arith.specs.Units.{inverseOf}
-use Rattle.arith.proofs.Refusals.{both-held}
-use Rattle.arith.proofs.Cong.{cong-of-eq}
-use Rattle.arith.proofs.Remainders.{mod-of, idle, mul-none, neg-none, neg-zero}
+use Rattle.arith.specs.Units.{inverse_of}
+use Rattle.arith.proofs.Refusals.{both_held}
+use Rattle.arith.proofs.Cong.{cong_of_eq}
+use Rattle.arith.proofs.Remainders.{mod_of, idle, mul_none, neg_none, neg_zero}
 use Rattle.pauli.specs.Pauli.{Pauli}
-use Rattle.pauli.specs.inner.Touched.{touched, still}
-use Rattle.pauli.specs.Effects.{fourier, effectF, effectS, effectA, effectM, effectX, effectZ, effectC, effectW}
-use Rattle.pauli.proofs.Lists.{set-back, two-back}
-use Rattle.pauli.proofs.Ranges.{pauli-path}
+use Rattle.pauli.specs.Inner.Touched.{touched, still}
+use Rattle.pauli.specs.Effects.{fourier, effect_f, effect_s, effect_a, effect_m, effect_x, effect_z, effect_c, effect_w}
+use Rattle.pauli.proofs.Lists.{set_back, two_back}
+use Rattle.pauli.proofs.Ranges.{pauli_path}
 
 -- such a Pauli, at one qudit
 pub record Rests (d i : ℕ) (p : Pauli) : Type 0 where
   pub low : p.phase < 2 * d
-  pub v-none : get_or p.v i 0 ≡ 0
-  pub w-none : get_or p.w i 0 ≡ 0
+  pub v_none : get_or p.v i 0 ≡ 0
+  pub w_none : get_or p.w i 0 ≡ 0
 
-pub still-rests : (d i j : ℕ) (p : Pauli) → still d (touched i j p) ≡ true → Rests d i p × Rests d j p
-still-rests d i j p e =
+pub still_rests : (d i j : ℕ) (p : Pauli) → still d (touched i j p) ≡ true → Rests d i p × Rests d j p
+still_rests d i j p e =
     let x = get_or p.v i 0 + get_or p.w i 0 in
     let y = get_or p.v j 0 + get_or p.w j 0 in
-    let b = both-held (eqb x 0) (eqb y 0 && ltb p.phase (2 * d)) e in
-    let c = both-held (eqb y 0) (ltb p.phase (2 * d)) b.1 in
+    let b = both_held (eqb x 0) (eqb y 0 && ltb p.phase (2 * d)) e in
+    let c = both_held (eqb y 0) (ltb p.phase (2 * d)) b.1 in
     let here = eqb-true x 0 b.0 in
     let there = eqb-true y 0 c.0 in
     let low = ltb-true p.phase (2 * d) c.1 in
-    (record { low = low; v-none = omega (arith, here); w-none = omega (arith, here) }, record { low = low; v-none = omega (arith, there); w-none = omega (arith, there) })
+    (record { low = low; v_none = omega (arith, here); w_none = omega (arith, here) }, record { low = low; v_none = omega (arith, there); w_none = omega (arith, there) })
 
 module _ (d i : ℕ) (p : Pauli) (r : Rests d i p) where
   positive : 0 < d
   positive = omega (arith, r.low)
 
   -- nothing added to the phase and nothing taken from it, and 0 stored where v or w is 0
-  plus-none : {x : ℕ} → x ≡ 0 → (p.phase + x) % (2 * d) ≡ p.phase
-  plus-none e = idle r.low (cong-of-eq e)
+  plus_none : {x : ℕ} → x ≡ 0 → (p.phase + x) % (2 * d) ≡ p.phase
+  plus_none e = idle r.low (cong_of_eq e)
 
-  minus-none : {x : ℕ} → x ≡ 0 → (p.phase + neg (2 * d) x) % (2 * d) ≡ p.phase
-  minus-none e = idle r.low (neg-none (omega (arith, r.low)) e)
+  minus_none : {x : ℕ} → x ≡ 0 → (p.phase + neg (2 * d) x) % (2 * d) ≡ p.phase
+  minus_none e = idle r.low (neg_none (omega (arith, r.low)) e)
 
-  v-back : {x : ℕ} → x ≡ 0 → set p.v i x ≡ p.v
-  v-back e = set-back p.v i (e ∙ sym r.v-none)
+  v_back : {x : ℕ} → x ≡ 0 → set p.v i x ≡ p.v
+  v_back e = set_back p.v i (e ∙ sym r.v_none)
 
-  w-back : {x : ℕ} → x ≡ 0 → set p.w i x ≡ p.w
-  w-back e = set-back p.w i (e ∙ sym r.w-none)
+  w_back : {x : ℕ} → x ≡ 0 → set p.w i x ≡ p.w
+  w_back e = set_back p.w i (e ∙ sym r.w_none)
 
   none : {x : ℕ} → x ≡ 0 → x % d ≡ 0
-  none {x} e = mod-of x (cong-of-eq e) positive
+  none {x} e = mod_of x (cong_of_eq e) positive
 
   -- the kinds
-  once-still : fourier d i p ≡ p
-  once-still = pauli-path (minus-none (mul-none 2 (mul-none _ r.w-none))) (v-back (neg-zero d _ positive r.w-none)) (w-back r.v-none)
+  once_still : fourier d i p ≡ p
+  once_still = pauli_path (minus_none (mul_none 2 (mul_none _ r.w_none))) (v_back (neg_zero d _ positive r.w_none)) (w_back r.v_none)
 
-  pub f-still : (k : ℕ) → effectF d i k p ≡ p
-  f-still zero = refl
-  f-still (suc k) = ap (fourier d i) (f-still k) ∙ once-still
+  pub f_still : (k : ℕ) → effect_f d i k p ≡ p
+  f_still zero = refl
+  f_still (suc k) = ap (fourier d i) (f_still k) ∙ once_still
 
-  pub s-still : (k : ℕ) → effectS d i k p ≡ p
-  s-still k = pauli-path (plus-none (mul-none k (ap (λ (x : ℕ). x * (x + d)) r.v-none ∙ zero-mul (0 + d)))) refl (w-back (none (omega (arith, r.w-none, mul-none k r.v-none))))
+  pub s_still : (k : ℕ) → effect_s d i k p ≡ p
+  s_still k = pauli_path (plus_none (mul_none k (ap (λ (x : ℕ). x * (x + d)) r.v_none ∙ zero-mul (0 + d)))) refl (w_back (none (omega (arith, r.w_none, mul_none k r.v_none))))
 
-  pub m-still : (k : ℕ) → effectM d i k p ≡ p
-  m-still k = pauli-path refl (v-back (none (mul-none k r.v-none))) (w-back (none (mul-none (inverseOf d k) r.w-none)))
+  pub m_still : (k : ℕ) → effect_m d i k p ≡ p
+  m_still k = pauli_path refl (v_back (none (mul_none k r.v_none))) (w_back (none (mul_none (inverse_of d k) r.w_none)))
 
-  pub x-still : (k : ℕ) → effectX d i k p ≡ p
-  x-still k = pauli-path (minus-none (mul-none 2 (mul-none k r.w-none))) refl refl
+  pub x_still : (k : ℕ) → effect_x d i k p ≡ p
+  x_still k = pauli_path (minus_none (mul_none 2 (mul_none k r.w_none))) refl refl
 
-  pub z-still : (k : ℕ) → effectZ d i k p ≡ p
-  z-still k = pauli-path (plus-none (mul-none 2 (mul-none k r.v-none))) refl refl
+  pub z_still : (k : ℕ) → effect_z d i k p ≡ p
+  z_still k = pauli_path (plus_none (mul_none 2 (mul_none k r.v_none))) refl refl
 
-pub a-still : (d i j : ℕ) (p : Pauli) → Rests d i p → Rests d j p → (k : ℕ) → effectA d i j k p ≡ p
-a-still d i j p r s k = pauli-path refl
-    (v-back d j p s (none d j p s (omega (arith, s.v-none, mul-none k r.v-none))))
-    (set-back p.w i (idle (omega (arith, r.low, r.w-none)) (neg-none (omega (arith, r.low)) (mul-none k s.w-none))))
+pub a_still : (d i j : ℕ) (p : Pauli) → Rests d i p → Rests d j p → (k : ℕ) → effect_a d i j k p ≡ p
+a_still d i j p r s k = pauli_path refl
+    (v_back d j p s (none d j p s (omega (arith, s.v_none, mul_none k r.v_none))))
+    (set_back p.w i (idle (omega (arith, r.low, r.w_none)) (neg_none (omega (arith, r.low)) (mul_none k s.w_none))))
 
-pub c-still : (d i j : ℕ) (p : Pauli) → Rests d i p → Rests d j p → (k : ℕ) → effectC d i j k p ≡ p
-c-still d i j p r s k = pauli-path
-    (plus-none d j p s (mul-none 2 (mul-none k (mul-none (get_or p.v i 0) s.v-none))))
+pub c_still : (d i j : ℕ) (p : Pauli) → Rests d i p → Rests d j p → (k : ℕ) → effect_c d i j k p ≡ p
+c_still d i j p r s k = pauli_path
+    (plus_none d j p s (mul_none 2 (mul_none k (mul_none (get_or p.v i 0) s.v_none))))
     refl
-    (two-back p.w i j
-    (none d j p s (omega (arith, r.w-none, mul-none k s.v-none)) ∙ sym r.w-none)
-    (none d j p s (omega (arith, s.w-none, mul-none k r.v-none)) ∙ sym s.w-none))
+    (two_back p.w i j
+    (none d j p s (omega (arith, r.w_none, mul_none k s.v_none)) ∙ sym r.w_none)
+    (none d j p s (omega (arith, s.w_none, mul_none k r.v_none)) ∙ sym s.w_none))
 
-pub w-still : (d i j : ℕ) (p : Pauli) → Rests d i p → Rests d j p → effectW i j p ≡ p
-w-still d i j p r s = pauli-path
+pub w_still : (d i j : ℕ) (p : Pauli) → Rests d i p → Rests d j p → effect_w i j p ≡ p
+w_still d i j p r s = pauli_path
     refl
-    (two-back p.v i j (s.v-none ∙ sym r.v-none) (r.v-none ∙ sym s.v-none))
-    (two-back p.w i j (s.w-none ∙ sym r.w-none) (r.w-none ∙ sym s.w-none))
+    (two_back p.v i j (s.v_none ∙ sym r.v_none) (r.v_none ∙ sym s.v_none))
+    (two_back p.w i j (s.w_none ∙ sym r.w_none) (r.w_none ∙ sym s.w_none))

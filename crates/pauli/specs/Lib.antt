@@ -5,4 +5,4 @@ pub mod Effects
 pub mod Bytes
 pub mod Range
 pub mod Calls
-pub mod inner
+pub mod Inner

@@ -14,11 +14,11 @@ pub data Below (d : ℕ) : List ℕ → Type 0 where
   more : {x : ℕ} {xs : List ℕ} → x < d → Below d xs → Below d (x ∷ xs)
 
 pub record InRange (d n : ℕ) (p : Pauli) : Type 0 where
-  pub phase-below : p.phase < 2 * d
-  pub v-length : length p.v ≡ n
-  pub w-length : length p.w ≡ n
-  pub v-below : Below d p.v
-  pub w-below : Below d p.w
+  pub phase_below : p.phase < 2 * d
+  pub v_length : length p.v ≡ n
+  pub w_length : length p.w ≡ n
+  pub v_below : Below d p.v
+  pub w_below : Below d p.w
 
 -- w·s: the sum of the products
 abbrev pub dot : List ℕ → List ℕ → ℕ
@@ -40,12 +40,12 @@ product d p q = record {
 }
 
 -- a phase and nothing else
-abbrev pub phaseOnly : ℕ → ℕ → Pauli
-phaseOnly n h = record { phase = h; v = replicate n 0; w = replicate n 0 }
+abbrev pub phase_only : ℕ → ℕ → Pauli
+phase_only n h = record { phase = h; v = replicate n 0; w = replicate n 0 }
 
 -- k copies, multiplied
 abbrev pub power : ℕ → ℕ → Pauli → ℕ → Pauli
-power d n p zero = phaseOnly n 0
+power d n p zero = phase_only n 0
 power d n p (suc k) = product d (power d n p k) p
 
 -- the commutation number, w·s − v·t
@@ -53,14 +53,14 @@ abbrev pub comm : ℕ → Pauli → Pauli → ℕ
 comm d p q = (dot p.w q.v + neg d (dot p.v q.w)) % d
 
 -- unit Pauli j: v at j is 1 below n, w at j − n is 1 from n on
-abbrev pub unitX : ℕ → ℕ → Pauli
-unitX n i = record { phase = 0; v = set (replicate n 0) i 1; w = replicate n 0 }
+abbrev pub unit_x : ℕ → ℕ → Pauli
+unit_x n i = record { phase = 0; v = set (replicate n 0) i 1; w = replicate n 0 }
 
-abbrev pub unitZ : ℕ → ℕ → Pauli
-unitZ n i = record { phase = 0; v = replicate n 0; w = set (replicate n 0) i 1 }
+abbrev pub unit_z : ℕ → ℕ → Pauli
+unit_z n i = record { phase = 0; v = replicate n 0; w = set (replicate n 0) i 1 }
 
 abbrev pub unit : ℕ → ℕ → Pauli
-unit n j = cond (ltb j n) (unitX n j) (unitZ n (j - n))
+unit n j = cond (ltb j n) (unit_x n j) (unit_z n (j - n))
 
 -- the number whose parity decides whether the d-th power is the identity: h + (d − 1)·(w·v)
 abbrev pub parity : ℕ → Pauli → ℕ

@@ -13,9 +13,9 @@ marks (x ∷ vs) [] = []
 marks (x ∷ vs) (z ∷ ws) = mark x z ∷ marks vs ws
 
 -- the word whose bits are these, the lowest first
-abbrev pub wordOf : List ℕ → ℕ
-wordOf [] = 0
-wordOf (b ∷ bs) = b + 2 * wordOf bs
+abbrev pub word_of : List ℕ → ℕ
+word_of [] = 0
+word_of (b ∷ bs) = b + 2 * word_of bs
 
 -- how many of them are 1: their sum
 abbrev pub total : List ℕ → ℕ
@@ -23,9 +23,9 @@ total [] = 0
 total (b ∷ bs) = b + total bs
 
 -- the support word of a Pauli: bit i is set exactly when v or w of qudit i isn't 0
-abbrev pub supportOf : Pauli → ℕ
-supportOf p = wordOf (marks p.v p.w)
+abbrev pub support_of : Pauli → ℕ
+support_of p = word_of (marks p.v p.w)
 
 -- the number of qudits that it touches
-abbrev pub touchedOf : Pauli → ℕ
-touchedOf p = total (marks p.v p.w)
+abbrev pub touched_of : Pauli → ℕ
+touched_of p = total (marks p.v p.w)

@@ -1,10 +1,10 @@
 // Loops over the entries of a Pauli: the first n of an array of 16.
 ghost use Rattle.std.specs.Prelude.{◌≡◌, ℕ, ◌+◌, ◌*◌, ◌≤◌, ◌<◌, get_or};
 ghost use Rattle.arith.specs.Bytes.{tab};
-ghost use Rattle.arith.specs.Refusals.{Dimension, numberOf, orElse};
+ghost use Rattle.arith.specs.Refusals.{Dimension, number_of, or_else};
 ghost use Rattle.pauli.specs.Pauli.{dot};
-ghost use Rattle.pauli.specs.Range.{boundsOf};
-ghost use Rattle.pauli.specs.inner.View.{entries};
+ghost use Rattle.pauli.specs.Range.{bounds_of};
+ghost use Rattle.pauli.specs.Inner.View.{entries};
 
 use arith::checks::Check;
 use arith::numbers::larger;
@@ -32,7 +32,7 @@ pub fn sum_of_products(a: [Residue; 16], b: [Residue; 16], n: usize) -> u64
 // Whether every v and every w is below d. The largest is looked for, and not the first that isn't below: a loop that never stops early takes several at a time.
 pub fn bounds(v: [Residue; 16], w: [Residue; 16], d: u16, n: usize) -> Check
     requires { Dimension d × (n ≤ 16) }
-    ensures { numberOf result ≡ orElse (boundsOf d (entries n v)) (boundsOf d (entries n w)) }
+    ensures { number_of result ≡ or_else (bounds_of d (entries n v)) (bounds_of d (entries n w)) }
 {
     let mut top: u16 = 0;
     for i in 0..n {

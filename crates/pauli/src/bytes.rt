@@ -1,10 +1,10 @@
 // Paulis in bytes: the phase, then v, then w, each number two bytes.
 ghost use Rattle.std.specs.Prelude.{◌≡◌, ℕ, ◌+◌, ◌*◌, ◌≤◌, ◌<◌, length, get_or};
 ghost use Rattle.std.proofs.lemmas.List.Edits.{sets};
-ghost use Rattle.arith.specs.Bytes.{numberAt, numbersAt, bytesOf};
-ghost use Rattle.pauli.specs.Bytes.{decodeAt, encode};
-ghost use Rattle.pauli.specs.Support.{marks, wordOf};
-ghost use Rattle.pauli.specs.inner.View.{entries, view, WordTrue};
+ghost use Rattle.arith.specs.Bytes.{number_at, numbers_at, bytes_of};
+ghost use Rattle.pauli.specs.Bytes.{decode_at, encode};
+ghost use Rattle.pauli.specs.Support.{marks, word_of};
+ghost use Rattle.pauli.specs.Inner.View.{entries, view, WordTrue};
 
 use crate::Pauli;
 use arith::residue::{Phase, Residue};
@@ -12,7 +12,7 @@ use arith::residue::{Phase, Residue};
 // The m numbers from number k on.
 fn read_numbers(b: &[u8], k: usize, m: usize) -> [u16; 33]
     requires { (m ≤ 33) × (2 * (k + m) ≤ length b.now) }
-    ensures { (i : ℕ) → i < m → get_or result i 0 ≡ numberAt b.now (k + i) }
+    ensures { (i : ℕ) → i < m → get_or result i 0 ≡ number_at b.now (k + i) }
 {
     let mut out = [0u16; 33];
     for i in 0..m {
@@ -24,7 +24,7 @@ fn read_numbers(b: &[u8], k: usize, m: usize) -> [u16; 33]
 // The support word of n qudits, whose v start at number k, with w behind. It is made from the bytes: to read the numbers again would wait for their stores.
 fn word_at(b: &[u8], k: usize, n: usize) -> u16
     requires { (n ≤ 16) × (2 * (k + 2 * n) ≤ length b.now) }
-    ensures { result ≡ wordOf (marks (numbersAt b.now k n) (numbersAt b.now (k + n) n)) }
+    ensures { result ≡ word_of (marks (numbers_at b.now k n) (numbers_at b.now (k + n) n)) }
 {
     let mut word: u16 = 0;
     for i in 0..n {
@@ -38,7 +38,7 @@ fn word_at(b: &[u8], k: usize, n: usize) -> u16
 // Writes the first n entries from number k on.
 fn write_entries(b: &mut [u8], k: usize, a: [Residue; 16], n: usize)
     requires { (n ≤ 16) × (2 * (k + n) ≤ length b.old) }
-    ensures { b.new ≡ sets b.old (2 * k) (bytesOf (entries n a)) }
+    ensures { b.new ≡ sets b.old (2 * k) (bytes_of (entries n a)) }
 {
     for i in 0..n {
         let x = a[i];
@@ -50,7 +50,7 @@ impl Pauli {
     // The Pauli on n qudits that starts at number k of the bytes. All its numbers are read in one loop: of v and w it holds 16 places, whatever n is.
     pub fn read(b: &[u8], k: usize, n: usize) -> Pauli
         requires { (n ≤ 16) × (2 * (k + 1 + 2 * n) ≤ length b.now) }
-        ensures value { view n result ≡ decodeAt n k b.now }
+        ensures value { view n result ≡ decode_at n k b.now }
         ensures word { WordTrue n result }
     {
         let numbers = read_numbers(b, k, 1 + 2 * n);

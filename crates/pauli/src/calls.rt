@@ -1,9 +1,9 @@
 // The public calls on Paulis in bytes: the checks in the order of the table, then the work.
 ghost use Rattle.std.specs.Prelude.{◌≡◌, length};
-ghost use Rattle.arith.specs.Refusals.{numberOf, orElse, givenOf, sizeOf, roomOf};
+ghost use Rattle.arith.specs.Refusals.{number_of, or_else, given_of, size_of, room_of};
 ghost use Rattle.arith.specs.Answers.{Answered, Written};
-ghost use Rattle.pauli.specs.Bytes.{pauliBytes};
-ghost use Rattle.pauli.specs.Calls.{productRefusal, productBytes, powerRefusal, powerBytes, commutationRefusal, commutationNumber, Supported};
+ghost use Rattle.pauli.specs.Bytes.{pauli_bytes};
+ghost use Rattle.pauli.specs.Calls.{product_refusal, product_bytes, power_refusal, power_bytes, commutation_refusal, commutation_number, Supported};
 
 use crate::Pauli;
 use arith::checks::{Answer, Check};
@@ -20,7 +20,7 @@ pub struct SupportAnswer {
 
 // 1 and 2, then 3 of a Pauli, whose bytes are as many as `size` says.
 fn one_check(d: u16, n: u16, size: usize) -> Check
-    ensures { numberOf result ≡ orElse (givenOf d n) (sizeOf (pauliBytes n) size) }
+    ensures { number_of result ≡ or_else (given_of d n) (size_of (pauli_bytes n) size) }
 {
     let given = arith::checks::given(d, n);
     let Check::Good = given else {
@@ -31,7 +31,7 @@ fn one_check(d: u16, n: u16, size: usize) -> Check
 
 // 1 and 2, then 3 of each of two Paulis.
 fn commutation_check(d: u16, n: u16, first: usize, second: usize) -> Check
-    ensures { numberOf result ≡ orElse (givenOf d n) (orElse (sizeOf (pauliBytes n) first) (sizeOf (pauliBytes n) second)) }
+    ensures { number_of result ≡ or_else (given_of d n) (or_else (size_of (pauli_bytes n) first) (size_of (pauli_bytes n) second)) }
 {
     let of_p = one_check(d, n, first);
     let Check::Good = of_p else {
@@ -42,7 +42,7 @@ fn commutation_check(d: u16, n: u16, first: usize, second: usize) -> Check
 
 // 1 and 2, then 3 of each of two Paulis, then 4 of an output.
 fn product_check(d: u16, n: u16, first: usize, second: usize, room: usize) -> Check
-    ensures { numberOf result ≡ orElse (givenOf d n) (orElse (sizeOf (pauliBytes n) first) (orElse (sizeOf (pauliBytes n) second) (roomOf (pauliBytes n) room))) }
+    ensures { number_of result ≡ or_else (given_of d n) (or_else (size_of (pauli_bytes n) first) (or_else (size_of (pauli_bytes n) second) (room_of (pauli_bytes n) room))) }
 {
     let found = commutation_check(d, n, first, second);
     let Check::Good = found else {
@@ -53,7 +53,7 @@ fn product_check(d: u16, n: u16, first: usize, second: usize, room: usize) -> Ch
 
 // 3 of a Pauli, then 4 of an output for one.
 pub fn lent(n: u16, size: usize, room: usize) -> Check
-    ensures { numberOf result ≡ orElse (sizeOf (pauliBytes n) size) (roomOf (pauliBytes n) room) }
+    ensures { number_of result ≡ or_else (size_of (pauli_bytes n) size) (room_of (pauli_bytes n) room) }
 {
     let want = 2 * (1 + 2 * (n as usize));
     arith::checks::lent(want, size, want, room)
@@ -61,7 +61,7 @@ pub fn lent(n: u16, size: usize, room: usize) -> Check
 
 // 1 and 2, then 3 of a Pauli, then 4 of an output.
 fn power_check(d: u16, n: u16, size: usize, room: usize) -> Check
-    ensures { numberOf result ≡ orElse (givenOf d n) (orElse (sizeOf (pauliBytes n) size) (roomOf (pauliBytes n) room)) }
+    ensures { number_of result ≡ or_else (given_of d n) (or_else (size_of (pauli_bytes n) size) (room_of (pauli_bytes n) room)) }
 {
     let given = arith::checks::given(d, n);
     let Check::Good = given else {
@@ -73,7 +73,7 @@ fn power_check(d: u16, n: u16, size: usize, room: usize) -> Check
 // The product of p and q, in this order.
 #[tactic(auto, using(crate::proofs::Lent::lent))]
 pub fn product(d: u16, n: u16, p: &[u8], q: &[u8], out: &mut [u8]) -> u16
-    ensures { Written (productRefusal d n p.now q.now (length out.old)) (productBytes d n p.now q.now) out.old out.new result }
+    ensures { Written (product_refusal d n p.now q.now (length out.old)) (product_bytes d n p.now q.now) out.old out.new result }
 {
     let found = product_check(d, n, p.len(), q.len(), out.len());
     let Check::Good = found else {
@@ -93,7 +93,7 @@ pub fn product(d: u16, n: u16, p: &[u8], q: &[u8], out: &mut [u8]) -> u16
 // The product of k copies of p.
 #[tactic(auto, using(crate::proofs::Lent::lent))]
 pub fn power(d: u16, n: u16, p: &[u8], k: u16, out: &mut [u8]) -> u16
-    ensures { Written (powerRefusal d n p.now (length out.old)) (powerBytes d n p.now k) out.old out.new result }
+    ensures { Written (power_refusal d n p.now (length out.old)) (power_bytes d n p.now k) out.old out.new result }
 {
     let found = power_check(d, n, p.len(), out.len());
     let Check::Good = found else {
@@ -112,7 +112,7 @@ pub fn power(d: u16, n: u16, p: &[u8], k: u16, out: &mut [u8]) -> u16
 // The commutation number of p and q.
 #[tactic(auto, using(crate::proofs::Lent::lent))]
 pub fn commutation(d: u16, n: u16, p: &[u8], q: &[u8]) -> Answer
-    ensures { Answered (commutationRefusal d n p.now q.now) (commutationNumber d n p.now q.now) result }
+    ensures { Answered (commutation_refusal d n p.now q.now) (commutation_number d n p.now q.now) result }
 {
     let found = commutation_check(d, n, p.len(), q.len());
     let Check::Good = found else {
@@ -134,7 +134,7 @@ pub fn commutation(d: u16, n: u16, p: &[u8], q: &[u8]) -> Answer
 
 // The answer of a call on a Pauli's support that a check refused.
 fn no_support(found: Check) -> SupportAnswer
-    ensures { (result.number ≡ numberOf found) × ((result.word ≡ 0) × (result.touched ≡ 0)) }
+    ensures { (result.number ≡ number_of found) × ((result.word ≡ 0) × (result.touched ≡ 0)) }
 {
     SupportAnswer {
         number: arith::checks::number(found),

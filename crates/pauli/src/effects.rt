@@ -2,10 +2,10 @@
 // Each contract holds for every n from i + 1 to 16 (on two qudits from j + 1 too): the effect is the same however many places are in use.
 ghost use Rattle.std.specs.Prelude.{◌≡◌, cond, eqb, set, ◌≢◌, ℕ, ◌<◌, ◌≤◌};
 ghost use Rattle.arith.specs.Refusals.{Dimension};
-ghost use Rattle.arith.specs.Units.{inverseOf};
-ghost use Rattle.pauli.specs.inner.View.{entries, view, WordTrue};
-ghost use Rattle.pauli.specs.inner.Touched.{viewTouched, touched, placed};
-ghost use Rattle.pauli.specs.Effects.{effectF, effectS, effectA, effectM, effectX, effectZ, effectC, effectW};
+ghost use Rattle.arith.specs.Units.{inverse_of};
+ghost use Rattle.pauli.specs.Inner.View.{entries, view, WordTrue};
+ghost use Rattle.pauli.specs.Inner.Touched.{view_touched, touched, placed};
+ghost use Rattle.pauli.specs.Effects.{effect_f, effect_s, effect_a, effect_m, effect_x, effect_z, effect_c, effect_w};
 
 use crate::Pauli;
 use crate::touched::Touched;
@@ -37,7 +37,7 @@ impl Pauli {
     // The numbers that a row on i and j touches.
     pub fn touched(self, i: u16, j: u16) -> Touched
         requires { (i < 16) × (j < 16) }
-        ensures { (n : ℕ) → i < n → j < n → viewTouched result ≡ touched i j (view n self) }
+        ensures { (n : ℕ) → i < n → j < n → view_touched result ≡ touched i j (view n self) }
     {
         let first = i as usize;
         let second = j as usize;
@@ -90,7 +90,7 @@ impl Pauli {
     // F: k times δ − 2·vi·wi, then vi, wi become −wi, vi.
     pub fn effect_f(self, i: u16, k: Power, d: u16) -> Pauli
         requires { Dimension d × ((i < 16) × ((1 ≤ k.0) × (k.0 ≤ 3))) }
-        ensures value { (n : ℕ) → i < n → n ≤ 16 → view n result ≡ effectF d i k.0 (view n self) }
+        ensures value { (n : ℕ) → i < n → n ≤ 16 → view n result ≡ effect_f d i k.0 (view n self) }
         ensures word { (n : ℕ) → i < n → n ≤ 16 → WordTrue n self → WordTrue n result }
     {
         let t = self.touched(i, i).effect_f(k, d);
@@ -100,7 +100,7 @@ impl Pauli {
     // S: δ + k·vi·(vi + d), wi + k·vi.
     pub fn effect_s(self, i: u16, k: Power, d: u16) -> Pauli
         requires { Dimension d × (i < 16) }
-        ensures value { (n : ℕ) → i < n → n ≤ 16 → view n result ≡ effectS d i k.0 (view n self) }
+        ensures value { (n : ℕ) → i < n → n ≤ 16 → view n result ≡ effect_s d i k.0 (view n self) }
         ensures word { (n : ℕ) → i < n → n ≤ 16 → WordTrue n self → WordTrue n result }
     {
         let t = self.touched(i, i).effect_s(k, d);
@@ -110,7 +110,7 @@ impl Pauli {
     // A: vj + k·vi, wi − k·wj.
     pub fn effect_a(self, i: u16, j: u16, k: Power, d: u16) -> Pauli
         requires { Dimension d × ((i < 16) × ((j < 16) × (i ≢ j))) }
-        ensures value { (n : ℕ) → i < n → j < n → n ≤ 16 → view n result ≡ effectA d i j k.0 (view n self) }
+        ensures value { (n : ℕ) → i < n → j < n → n ≤ 16 → view n result ≡ effect_a d i j k.0 (view n self) }
         ensures word { (n : ℕ) → i < n → j < n → n ≤ 16 → WordTrue n self → WordTrue n result }
     {
         let t = self.touched(i, j).effect_a(k, d);
@@ -121,8 +121,8 @@ impl Pauli {
     // M: vi becomes k·vi, wi becomes k'·wi, with the inverse k' given.
     pub fn effect_m(self, i: u16, k: Power, inverse: Residue, d: u16) -> Pauli
         requires dimension { Dimension d × (i < 16) }
-        requires inverse { inverse.0 ≡ inverseOf d k.0 }
-        ensures value { (n : ℕ) → i < n → n ≤ 16 → view n result ≡ effectM d i k.0 (view n self) }
+        requires inverse { inverse.0 ≡ inverse_of d k.0 }
+        ensures value { (n : ℕ) → i < n → n ≤ 16 → view n result ≡ effect_m d i k.0 (view n self) }
         ensures word { (n : ℕ) → i < n → n ≤ 16 → WordTrue n self → WordTrue n result }
     {
         let t = self.touched(i, i).effect_m(k, inverse, d);
@@ -132,7 +132,7 @@ impl Pauli {
     // X: δ − 2·k·wi.
     pub fn effect_x(self, i: u16, k: Power, d: u16) -> Pauli
         requires { Dimension d × (i < 16) }
-        ensures value { (n : ℕ) → i < n → n ≤ 16 → view n result ≡ effectX d i k.0 (view n self) }
+        ensures value { (n : ℕ) → i < n → n ≤ 16 → view n result ≡ effect_x d i k.0 (view n self) }
         ensures word { (n : ℕ) → i < n → n ≤ 16 → WordTrue n self → WordTrue n result }
     {
         let t = self.touched(i, i).effect_x(k, d);
@@ -142,7 +142,7 @@ impl Pauli {
     // Z: δ + 2·k·vi.
     pub fn effect_z(self, i: u16, k: Power, d: u16) -> Pauli
         requires { Dimension d × (i < 16) }
-        ensures value { (n : ℕ) → i < n → n ≤ 16 → view n result ≡ effectZ d i k.0 (view n self) }
+        ensures value { (n : ℕ) → i < n → n ≤ 16 → view n result ≡ effect_z d i k.0 (view n self) }
         ensures word { (n : ℕ) → i < n → n ≤ 16 → WordTrue n self → WordTrue n result }
     {
         let t = self.touched(i, i).effect_z(k, d);
@@ -152,7 +152,7 @@ impl Pauli {
     // C: wi + k·vj, wj + k·vi, δ + 2·k·vi·vj.
     pub fn effect_c(self, i: u16, j: u16, k: Power, d: u16) -> Pauli
         requires { Dimension d × ((i < 16) × ((j < 16) × (i ≢ j))) }
-        ensures value { (n : ℕ) → i < n → j < n → n ≤ 16 → view n result ≡ effectC d i j k.0 (view n self) }
+        ensures value { (n : ℕ) → i < n → j < n → n ≤ 16 → view n result ≡ effect_c d i j k.0 (view n self) }
         ensures word { (n : ℕ) → i < n → j < n → n ≤ 16 → WordTrue n self → WordTrue n result }
     {
         let t = self.touched(i, j).effect_c(k, d);
@@ -163,7 +163,7 @@ impl Pauli {
     // W: v and w of both qudits are exchanged.
     pub fn effect_w(self, i: u16, j: u16) -> Pauli
         requires { (i < 16) × ((j < 16) × (i ≢ j)) }
-        ensures value { (n : ℕ) → i < n → j < n → n ≤ 16 → view n result ≡ effectW i j (view n self) }
+        ensures value { (n : ℕ) → i < n → j < n → n ≤ 16 → view n result ≡ effect_w i j (view n self) }
         ensures word { (n : ℕ) → i < n → j < n → n ≤ 16 → WordTrue n self → WordTrue n result }
     {
         let t = self.touched(i, j).effect_w();

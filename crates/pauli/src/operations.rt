@@ -1,10 +1,10 @@
 // Operations on Paulis: products, powers, commutation numbers, and the unit Paulis. The Pauli in work is one value that each takes and hands on.
 ghost use Rattle.std.specs.Prelude.{◌≡◌, ◌*◌, ◌-◌, ◌%◌, ◌≤◌, ◌<◌};
 ghost use Rattle.arith.specs.Bytes.{tab};
-ghost use Rattle.arith.specs.Refusals.{Dimension, numberOf};
+ghost use Rattle.arith.specs.Refusals.{Dimension, number_of};
 ghost use Rattle.pauli.specs.Pauli.{InRange, plus, product, power, comm, unit, parity};
-ghost use Rattle.pauli.specs.Range.{pauliRangeOf, pairRangeOf};
-ghost use Rattle.pauli.specs.inner.View.{at, entries, view, WordTrue};
+ghost use Rattle.pauli.specs.Range.{pauli_range_of, pair_range_of};
+ghost use Rattle.pauli.specs.Inner.View.{at, entries, view, WordTrue};
 
 use crate::Pauli;
 use arith::checks::Check;
@@ -175,10 +175,10 @@ impl Pauli {
     }
 
     // 5: the phase below 2d, then every v and every w below d.
-    #[tactic(auto, unfolding(crate::specs::Range::pauliRangeOf))]
+    #[tactic(auto, unfolding(crate::specs::Range::pauli_range_of))]
     pub fn range(self, d: u16, n: usize) -> Check
         requires { Dimension d × (n ≤ 16) }
-        ensures { numberOf result ≡ pauliRangeOf d (view n self) }
+        ensures { number_of result ≡ pauli_range_of d (view n self) }
     {
         let phase = self.phase;
         let v = self.v;
@@ -191,10 +191,10 @@ impl Pauli {
     }
 
     // 5 of this Pauli, then of the other.
-    #[tactic(auto, unfolding(crate::specs::Range::pairRangeOf))]
+    #[tactic(auto, unfolding(crate::specs::Range::pair_range_of))]
     pub fn pair_range(self, other: Pauli, d: u16, n: usize) -> Check
         requires { Dimension d × (n ≤ 16) }
-        ensures { numberOf result ≡ pairRangeOf d (view n self) (view n other) }
+        ensures { number_of result ≡ pair_range_of d (view n self) (view n other) }
     {
         let of_self = self.range(d, n);
         let Check::Good = of_self else {

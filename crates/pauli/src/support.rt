@@ -1,8 +1,8 @@
 // Which qudits a Pauli touches: bit i of its support word is set exactly when v or w at qudit i, counted from 0, isn't 0.
 ghost use Rattle.std.specs.Prelude.{◌≡◌, ◌+◌, ◌≤◌, ◌<◌, get_or};
 ghost use Rattle.arith.specs.Bytes.{tab};
-ghost use Rattle.pauli.specs.Support.{mark, marks, wordOf};
-ghost use Rattle.pauli.specs.inner.Words.{Joins, Changes};
+ghost use Rattle.pauli.specs.Support.{mark, marks, word_of};
+ghost use Rattle.pauli.specs.Inner.Words.{Joins, Changes};
 
 use arith::residue::Residue;
 
@@ -36,7 +36,7 @@ pub fn with_entries(word: u16, i: u16, x: Residue, z: Residue) -> u16
 // The word of n qudits, whose v are the numbers from number v on, and whose w those from number w on.
 pub fn word_from(a: &[u16; 33], v: usize, w: usize, n: usize) -> u16
     requires { (n ≤ 16) × ((v + n ≤ 33) × (w + n ≤ 33)) }
-    ensures { result ≡ wordOf (marks (tab (λ i. get_or a.now (v + i) 0) n) (tab (λ i. get_or a.now (w + i) 0) n)) }
+    ensures { result ≡ word_of (marks (tab (λ i. get_or a.now (v + i) 0) n) (tab (λ i. get_or a.now (w + i) 0) n)) }
 {
     let mut word: u16 = 0;
     for i in 0..n {

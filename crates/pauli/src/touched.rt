@@ -2,9 +2,9 @@
 // A kind on one qudit takes j as i, and makes the same of both.
 ghost use Rattle.std.specs.Prelude.{◌≡◌, ◌+◌, ◌≤◌, eqb};
 ghost use Rattle.arith.specs.Refusals.{Dimension};
-ghost use Rattle.arith.specs.Units.{inverseOf};
-ghost use Rattle.pauli.specs.inner.Touched.{viewTouched, still, OnOne, OnTwo};
-ghost use Rattle.pauli.specs.Effects.{fourier, effectF, effectS, effectA, effectM, effectX, effectZ, effectC, effectW};
+ghost use Rattle.arith.specs.Units.{inverse_of};
+ghost use Rattle.pauli.specs.Inner.Touched.{view_touched, still, OnOne, OnTwo};
+ghost use Rattle.pauli.specs.Effects.{fourier, effect_f, effect_s, effect_a, effect_m, effect_x, effect_z, effect_c, effect_w};
 
 use arith::residue::{Phase, Power, Residue};
 
@@ -41,7 +41,7 @@ impl Touched {
     // F once: δ − 2·vi·wi, then vi, wi become −wi, vi.
     pub fn fourier(self, d: u16) -> Touched
         requires { Dimension d }
-        ensures { OnOne (λ i p. fourier d i p) (viewTouched self) (viewTouched result) }
+        ensures { OnOne (λ i p. fourier d i p) (view_touched self) (view_touched result) }
     {
         let phase = self.phase;
         let x = self.vi;
@@ -53,7 +53,7 @@ impl Touched {
     // F twice: v and w become −v and −w, and the phases that the two add cancel.
     fn half_turn(self, d: u16) -> Touched
         requires { Dimension d }
-        ensures { OnOne (λ i p. fourier d i (fourier d i p)) (viewTouched self) (viewTouched result) }
+        ensures { OnOne (λ i p. fourier d i (fourier d i p)) (view_touched self) (view_touched result) }
     {
         let phase = self.phase;
         let x = self.vi;
@@ -64,7 +64,7 @@ impl Touched {
     // F: k times, for a legal k. Three times is twice after once.
     pub fn effect_f(self, k: Power, d: u16) -> Touched
         requires { Dimension d × ((1 ≤ k.0) × (k.0 ≤ 3)) }
-        ensures { OnOne (λ i p. effectF d i k.0 p) (viewTouched self) (viewTouched result) }
+        ensures { OnOne (λ i p. effect_f d i k.0 p) (view_touched self) (view_touched result) }
     {
         let times = k.0;
         if times == 2 {
@@ -80,7 +80,7 @@ impl Touched {
     // S: δ + k·vi·(vi + d), wi + k·vi.
     pub fn effect_s(self, k: Power, d: u16) -> Touched
         requires { Dimension d }
-        ensures { OnOne (λ i p. effectS d i k.0 p) (viewTouched self) (viewTouched result) }
+        ensures { OnOne (λ i p. effect_s d i k.0 p) (view_touched self) (view_touched result) }
     {
         let phase = self.phase;
         let x = self.vi;
@@ -92,7 +92,7 @@ impl Touched {
     // A: vj + k·vi, wi − k·wj.
     pub fn effect_a(self, k: Power, d: u16) -> Touched
         requires { Dimension d }
-        ensures { OnTwo (λ i j p. effectA d i j k.0 p) (viewTouched self) (viewTouched result) }
+        ensures { OnTwo (λ i j p. effect_a d i j k.0 p) (view_touched self) (view_touched result) }
     {
         Touched {
             wi: self.wi.minus(self.wj.scaled(k, d), d),
@@ -104,8 +104,8 @@ impl Touched {
     // M: vi becomes k·vi, wi becomes k'·wi, with the inverse k' given.
     pub fn effect_m(self, k: Power, inverse: Residue, d: u16) -> Touched
         requires dimension { Dimension d }
-        requires inverse { inverse.0 ≡ inverseOf d k.0 }
-        ensures { OnOne (λ i p. effectM d i k.0 p) (viewTouched self) (viewTouched result) }
+        requires inverse { inverse.0 ≡ inverse_of d k.0 }
+        ensures { OnOne (λ i p. effect_m d i k.0 p) (view_touched self) (view_touched result) }
     {
         let phase = self.phase;
         let x = self.vi;
@@ -116,7 +116,7 @@ impl Touched {
     // X: δ − 2·k·wi.
     pub fn effect_x(self, k: Power, d: u16) -> Touched
         requires { Dimension d }
-        ensures { OnOne (λ i p. effectX d i k.0 p) (viewTouched self) (viewTouched result) }
+        ensures { OnOne (λ i p. effect_x d i k.0 p) (view_touched self) (view_touched result) }
     {
         let phase = self.phase;
         let x = self.vi;
@@ -128,7 +128,7 @@ impl Touched {
     // Z: δ + 2·k·vi.
     pub fn effect_z(self, k: Power, d: u16) -> Touched
         requires { Dimension d }
-        ensures { OnOne (λ i p. effectZ d i k.0 p) (viewTouched self) (viewTouched result) }
+        ensures { OnOne (λ i p. effect_z d i k.0 p) (view_touched self) (view_touched result) }
     {
         let phase = self.phase;
         let x = self.vi;
@@ -140,7 +140,7 @@ impl Touched {
     // C: wi + k·vj, wj + k·vi, δ + 2·k·vi·vj.
     pub fn effect_c(self, k: Power, d: u16) -> Touched
         requires { Dimension d }
-        ensures { OnTwo (λ i j p. effectC d i j k.0 p) (viewTouched self) (viewTouched result) }
+        ensures { OnTwo (λ i j p. effect_c d i j k.0 p) (view_touched self) (view_touched result) }
     {
         let times_x = self.vi.scaled(k, d);
         let moved = times_x.times(self.vj, d).doubled(d);
@@ -154,7 +154,7 @@ impl Touched {
 
     // W: vi and vj, and wi and wj, are exchanged.
     pub fn effect_w(self) -> Touched
-        ensures { OnTwo (λ i j p. effectW i j p) (viewTouched self) (viewTouched result) }
+        ensures { OnTwo (λ i j p. effect_w i j p) (view_touched self) (view_touched result) }
     {
         Touched {
             phase: self.phase,
@@ -168,7 +168,7 @@ impl Touched {
     // Whether no row changes them: v and w are 0 at its qudits, and the phase is below 2d, so that no row reduces it.
     pub fn still(self, d: u16) -> bool
         requires { Dimension d }
-        ensures { result ≡ still d (viewTouched self) }
+        ensures { result ≡ still d (view_touched self) }
     {
         both_zero(self.vi, self.wi) && both_zero(self.vj, self.wj) && self.phase.value() < 2 * d
     }

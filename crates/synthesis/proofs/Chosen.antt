@@ -7,21 +7,21 @@ use native.Mathlib.Omega.{arith}
 use lib.ListN.{length, take, drop, length-map}
 use lib.Seq.{take_at}
 use Rattle.arith.specs.Bytes.{front}
-use Rattle.arith.proofs.Cases.{by-eq}
+use Rattle.arith.proofs.Cases.{by_eq}
 use Rattle.arith.specs.declared.checks.Answer.{Answer}
-use Rattle.gates.specs.Written.{written, rowsOf}
-use Rattle.gates.proofs.Written.{rows-bytes}
-use Rattle.tableau.specs.Bytes.{decodeTableau}
-use Rattle.synthesis.specs.inner.Reduce.{synthesised}
-use Rattle.synthesis.specs.Demand3.{handed, synthesisRefusal, Synthesised}
-use Rattle.synthesis.specs.Chosen.{listOf, Chosen}
+use Rattle.gates.specs.Written.{written, rows_of}
+use Rattle.gates.proofs.Written.{rows_bytes}
+use Rattle.tableau.specs.Bytes.{decode_tableau}
+use Rattle.synthesis.specs.Inner.Reduce.{synthesised}
+use Rattle.synthesis.specs.Demand3.{handed, synthesis_refusal, Synthesised}
+use Rattle.synthesis.specs.Chosen.{list_of, Chosen}
 
 -- ---- an accepted call
-pub chosen-accepted : {d n : ℕ} {bytes new : List ℕ} {a : Answer} (old : List ℕ) → a.value ≡ length (synthesised d n (decodeTableau n bytes)) → new ≡ front (listOf d n bytes) old → Chosen d n bytes new a
-chosen-accepted {d} {n} {bytes} {new} {a} old v f =
-    let rows = synthesised d n (decodeTableau n bytes) in
-    let k : length (listOf d n bytes) ≡ 8 * a.value = omega (arith, rows-bytes (map written rows), length-map rows written) in
-    record { list = λ z. ap (take (8 * a.value)) f ∙ take_at (listOf d n bytes) (drop (length (listOf d n bytes)) old) (8 * a.value) k }
+pub chosen_accepted : {d n : ℕ} {bytes new : List ℕ} {a : Answer} (old : List ℕ) → a.value ≡ length (synthesised d n (decode_tableau n bytes)) → new ≡ front (list_of d n bytes) old → Chosen d n bytes new a
+chosen_accepted {d} {n} {bytes} {new} {a} old v f =
+    let rows = synthesised d n (decode_tableau n bytes) in
+    let k : length (list_of d n bytes) ≡ 8 * a.value = omega (arith, rows_bytes (map written rows), length-map rows written) in
+    record { list = λ z. ap (take (8 * a.value)) f ∙ take_at (list_of d n bytes) (drop (length (list_of d n bytes)) old) (8 * a.value) k }
 
 -- ---- what an output held before makes no difference
 pub record SameAnswer (a a' : Answer) (new new' : List ℕ) : Type 0 where
@@ -29,18 +29,18 @@ pub record SameAnswer (a a' : Answer) (new new' : List ℕ) : Type 0 where
   pub value : a.value ≡ a'.value
   pub list : handed a.value new ≡ handed a'.value new'
 
-pub old-no-difference : {d n : ℕ} {bytes old new old' new' : List ℕ} {a a' : Answer} → length old ≡ length old'
+pub old_no_difference : {d n : ℕ} {bytes old new old' new' : List ℕ} {a a' : Answer} → length old ≡ length old'
     → Synthesised d n bytes old new a → Chosen d n bytes new a → Synthesised d n bytes old' new' a' → Chosen d n bytes new' a' → SameAnswer a a' new new'
-old-no-difference {d} {n} {bytes} {old} {new} {old'} {new'} {a} {a'} e s c s' c' = by-eq a.number 0 accepted refused
+old_no_difference {d} {n} {bytes} {old} {new} {old'} {new'} {a} {a'} e s c s' c' = by_eq a.number 0 accepted refused
   where
     numbers : a.number ≡ a'.number
-    numbers = s.number ∙ ap (synthesisRefusal d n bytes) e ∙ sym s'.number
+    numbers = s.number ∙ ap (synthesis_refusal d n bytes) e ∙ sym s'.number
 
     accepted : a.number ≡ 0 → SameAnswer a a' new new'
     accepted z =
         let z' = sym numbers ∙ z in
         let lists = c.list z ∙ sym (c'.list z') in
-        record { number = numbers; value = sym (s.list z).counted ∙ ap (λ (b : List ℕ). length (rowsOf b)) lists ∙ (s'.list z').counted; list = lists }
+        record { number = numbers; value = sym (s.list z).counted ∙ ap (λ (b : List ℕ). length (rows_of b)) lists ∙ (s'.list z').counted; list = lists }
 
     refused : a.number ≢ 0 → SameAnswer a a' new new'
     refused f =

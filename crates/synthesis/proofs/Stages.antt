@@ -6,31 +6,31 @@ use native.Mathlib.Numerals.{add-one}
 use native.Mathlib.Omega.{arith}
 use Rattle.arith.specs.Units.{IsUnit}
 use Rattle.pauli.specs.Pauli.{Pauli}
-use Rattle.tableau.specs.Tableau.{WellFormed, Sound, upFrom}
-use Rattle.synthesis.specs.inner.Reduce.{State, start, vAt, each, gathered, stage}
-use Rattle.synthesis.proofs.Progress.{upTo}
-use Rattle.synthesis.proofs.Theorem.{stage-unit}
+use Rattle.tableau.specs.Tableau.{WellFormed, Sound, up_from}
+use Rattle.synthesis.specs.Inner.Reduce.{State, start, v_at, each, gathered, stage}
+use Rattle.synthesis.proofs.Progress.{up_to}
+use Rattle.synthesis.proofs.Theorem.{stage_unit}
 
 -- how many rows m stages make at most
-abbrev pub stageRows : ℕ → ℕ
-stageRows m = 5 * (m * m) + 4 * m
+abbrev pub stage_rows : ℕ → ℕ
+stage_rows m = 5 * (m * m) + 4 * m
 
 -- a stage takes its part of them
-pub stage-part : (n q c most : ℕ) → q < n → c + stageRows (n - q) ≤ most → c + (9 * (n - suc q) + 7) + stageRows (n - suc q) ≤ most
-stage-part n q c most l h = let e : n - q ≡ suc (n - suc q) = omega arith in one (n - suc q) (rw e at h)
+pub stage_part : (n q c most : ℕ) → q < n → c + stage_rows (n - q) ≤ most → c + (9 * (n - suc q) + 7) + stage_rows (n - suc q) ≤ most
+stage_part n q c most l h = let e : n - q ≡ suc (n - suc q) = omega arith in one (n - suc q) (rw e at h)
   where
-    one : (m : ℕ) → c + stageRows (suc m) ≤ most → c + (9 * m + 7) + stageRows m ≤ most
+    one : (m : ℕ) → c + stage_rows (suc m) ≤ most → c + (9 * m + 7) + stage_rows m ≤ most
     one m k = omega (arith, k)
 
-pub stage-next : (n q c c' most : ℕ) → q < n → c + stageRows (n - q) ≤ most → c' ≤ c + (9 * (n - suc q) + 7) → c' + stageRows (n - (q + 1)) ≤ most
-stage-next n q c c' most l h k = rw (add-one q) (omega (arith, stage-part n q c most l h))
+pub stage_next : (n q c c' most : ℕ) → q < n → c + stage_rows (n - q) ≤ most → c' ≤ c + (9 * (n - suc q) + 7) → c' + stage_rows (n - (q + 1)) ≤ most
+stage_next n q c c' most l h k = rw (add-one q) (omega (arith, stage_part n q c most l h))
 
 -- all from 0 on
-up-all : (f : ℕ → State → State) (j : ℕ) (s : State) → upTo f 0 j s ≡ each f (upFrom 0 j) s
-up-all f j s = let e : j - 0 ≡ j = omega arith in ap (λ (m : ℕ). each f (upFrom 0 m) s) e
+up_all : (f : ℕ → State → State) (j : ℕ) (s : State) → up_to f 0 j s ≡ each f (up_from 0 j) s
+up_all f j s = let e : j - 0 ≡ j = omega arith in ap (λ (m : ℕ). each f (up_from 0 m) s) e
 
 -- the pivot at the tableau u that the stages before q have led to
-pub unit-at : {d n : ℕ} {t u : List Pauli} → 1 < d → WellFormed d n t → Sound d n t → (q : ℕ) → q < n → u ≡ (upTo (stage d n) 0 q (start t)).tableau
-    → IsUnit d (vAt n (gathered d n q (start u)) q q)
-unit-at {d} {n} {t} {u} one formed sound q l e =
-    subst (λ (x : List Pauli). IsUnit d (vAt n (gathered d n q (start x)) q q)) (sym (e ∙ ap (λ (s : State). s.tableau) (up-all (stage d n) q (start t)))) (stage-unit one formed sound q l)
+pub unit_at : {d n : ℕ} {t u : List Pauli} → 1 < d → WellFormed d n t → Sound d n t → (q : ℕ) → q < n → u ≡ (up_to (stage d n) 0 q (start t)).tableau
+    → IsUnit d (v_at n (gathered d n q (start u)) q q)
+unit_at {d} {n} {t} {u} one formed sound q l e =
+    subst (λ (x : List Pauli). IsUnit d (v_at n (gathered d n q (start x)) q q)) (sym (e ∙ ap (λ (s : State). s.tableau) (up_all (stage d n) q (start t)))) (stage_unit one formed sound q l)

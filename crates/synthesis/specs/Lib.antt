@@ -2,4 +2,4 @@
 pub mod Demand3
 pub mod Chosen
 pub mod Measures
-pub mod inner
+pub mod Inner

@@ -11,23 +11,23 @@ weigh w [] = 0
 weigh w (r ∷ rs) = w r + weigh w rs
 
 -- a number for each A row by its qudits, another one for each C and W row by theirs, and 0 for any other row
-abbrev pub onPair : (ℕ → ℕ → ℕ) → (ℕ → ℕ → ℕ) → Row → ℕ
-onPair f g (F i k) = 0
-onPair f g (S i k) = 0
-onPair f g (A i j k) = f i j
-onPair f g (M i k) = 0
-onPair f g (X i k) = 0
-onPair f g (Z i k) = 0
-onPair f g (C i j k) = g i j
-onPair f g (W i j) = g i j
+abbrev pub on_pair : (ℕ → ℕ → ℕ) → (ℕ → ℕ → ℕ) → Row → ℕ
+on_pair f g (F i k) = 0
+on_pair f g (S i k) = 0
+on_pair f g (A i j k) = f i j
+on_pair f g (M i k) = 0
+on_pair f g (X i k) = 0
+on_pair f g (Z i k) = 0
+on_pair f g (C i j k) = g i j
+on_pair f g (W i j) = g i j
 
 -- the number of rows on two qudits
-abbrev pub countPairs : List Row → ℕ
-countPairs rows = weigh (onPair (λ i j. 1) (λ i j. 1)) rows
+abbrev pub count_pairs : List Row → ℕ
+count_pairs rows = weigh (on_pair (λ i j. 1) (λ i j. 1)) rows
 
 -- the number of C and W rows
-abbrev pub countCW : List Row → ℕ
-countCW rows = weigh (onPair (λ i j. 0) (λ i j. 1)) rows
+abbrev pub count_cw : List Row → ℕ
+count_cw rows = weigh (on_pair (λ i j. 0) (λ i j. 1)) rows
 
 -- 1 where i is p and j is q
 abbrev pub both : ℕ → ℕ → ℕ → ℕ → ℕ
@@ -38,8 +38,8 @@ abbrev pub between : ℕ → ℕ → ℕ → ℕ → ℕ
 between p q i j = both p q i j + both q p i j
 
 -- the number of rows on the qudits p and q
-abbrev pub countBetween : ℕ → ℕ → List Row → ℕ
-countBetween p q rows = weigh (onPair (between p q) (between p q)) rows
+abbrev pub count_between : ℕ → ℕ → List Row → ℕ
+count_between p q rows = weigh (on_pair (between p q) (between p q)) rows
 
 -- a row isn't F with power 2 (which does nothing for d = 2), S with power d (which does nothing for an odd d), M with power 1, nor A, X, Z or C with power 0 (which do
 -- nothing for any d)
@@ -68,10 +68,10 @@ pub record Expected (d n : ℕ) (t : List Pauli) (rows : List Row) : Type 0 wher
   pub short : 2 * length rows ≤ 9 * (n * n) + 9 * n
   pub shorter : Prime d → 2 * length rows ≤ 5 * (n * n) + 9 * n
   -- at most 3n(n − 1)/2 of them are on two qudits, and at most 3 on any two given ones
-  pub few : 2 * countPairs rows + 3 * n ≤ 3 * (n * n)
-  pub three : (p q : ℕ) → p < q → countBetween p q rows ≤ 3
+  pub few : 2 * count_pairs rows + 3 * n ≤ 3 * (n * n)
+  pub three : (p q : ℕ) → p < q → count_between p q rows ≤ 3
   -- none is C or W
-  pub six : countCW rows ≡ 0
+  pub six : count_cw rows ≡ 0
   -- none does nothing
   pub busy : AllBusy d rows
   -- the identity takes no row

@@ -1,7 +1,7 @@
 // The list handed back: the rows written so far, reversed in place.
 ghost use Rattle.std.specs.Prelude.{◌≡◌, List, [], ◌∷◌, ◌++◌, reverse, ℕ, ◌+◌, ◌*◌, ◌≤◌, length};
 ghost use Rattle.std.proofs.lemmas.List.Edits.{sets};
-ghost use Rattle.gates.specs.Written.{WrittenRow, rowAt, encodeRows};
+ghost use Rattle.gates.specs.Written.{WrittenRow, row_at, encode_rows};
 
 use crate::put::write_row;
 use gates::lists::read_row;
@@ -9,7 +9,7 @@ use gates::lists::read_row;
 // Swaps rows a and b.
 fn swap_rows(out: &mut [u8], a: usize, b: usize)
     requires { (8 * (a + 1) ≤ length out.old) × (8 * (b + 1) ≤ length out.old) }
-    ensures { out.new ≡ sets (sets out.old (8 * a) (encodeRows (rowAt out.old b ∷ []))) (8 * b) (encodeRows (rowAt out.old a ∷ [])) }
+    ensures { out.new ≡ sets (sets out.old (8 * a) (encode_rows (row_at out.old b ∷ []))) (8 * b) (encode_rows (row_at out.old a ∷ [])) }
 {
     let x = read_row(out, a);
     let y = read_row(out, b);
@@ -20,7 +20,7 @@ fn swap_rows(out: &mut [u8], a: usize, b: usize)
 // Reverses the first `count` rows; no later byte changes.
 pub fn reverse_rows(out: &mut [u8], count: usize)
     requires { 8 * count ≤ length out.old }
-    ensures { (ws : List WrittenRow) (rest : List ℕ) → length ws ≡ count → out.old ≡ encodeRows ws ++ rest → out.new ≡ encodeRows (reverse ws) ++ rest }
+    ensures { (ws : List WrittenRow) (rest : List ℕ) → length ws ≡ count → out.old ≡ encode_rows ws ++ rest → out.new ≡ encode_rows (reverse ws) ++ rest }
 {
     let half = count / 2;
     for r in 0..half {

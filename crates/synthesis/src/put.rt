@@ -3,12 +3,12 @@ ghost use Rattle.std.specs.Prelude.{◌≡◌, List, [], ◌∷◌, ℕ, suc, �
 ghost use Rattle.std.proofs.lemmas.List.Edits.{sets};
 ghost use Rattle.arith.specs.Refusals.{Dimension};
 ghost use Rattle.pauli.specs.Pauli.{Pauli};
-ghost use Rattle.gates.specs.Written.{encodeRows};
-ghost use Rattle.gates.specs.inner.View.{viewRow};
-ghost use Rattle.tableau.specs.inner.View.{tableView, Shaped};
-ghost use Rattle.synthesis.specs.inner.Reduce.{each, later};
-ghost use Rattle.synthesis.specs.inner.Progress.{Does};
-ghost use Rattle.synthesis.specs.inner.Turns.{turnOf, Asks};
+ghost use Rattle.gates.specs.Written.{encode_rows};
+ghost use Rattle.gates.specs.Inner.View.{view_row};
+ghost use Rattle.tableau.specs.Inner.View.{table_view, Shaped};
+ghost use Rattle.synthesis.specs.Inner.Reduce.{each, later};
+ghost use Rattle.synthesis.specs.Inner.Progress.{Does};
+ghost use Rattle.synthesis.specs.Inner.Turns.{turn_of, Asks};
 
 use crate::turns::{Turn, next_row};
 use gates::Row;
@@ -16,7 +16,7 @@ use gates::Row;
 // Writes a row as row r of the output.
 pub fn write_row(row: Row, out: &mut [u8], r: usize)
     requires { 8 * (r + 1) ≤ length out.old }
-    ensures { out.new ≡ sets out.old (8 * r) (encodeRows (viewRow row ∷ [])) }
+    ensures { out.new ≡ sets out.old (8 * r) (encode_rows (view_row row ∷ [])) }
 {
     let numbers = [row.kind, row.first, row.second, row.power];
     for i in 0..4 {
@@ -37,9 +37,9 @@ pub fn one_turn(
 )
     requires dimension { Dimension d × (n ≤ 16) }
     requires places { (q ≤ j) × (j < n) }
-    requires asks { Asks which d n q j (tableView n t.old) }
+    requires asks { Asks which d n q j (table_view n t.old) }
     requires room { (8 * (count.old + 1) ≤ length out.old) × Shaped t.old }
-    ensures { Does d (1) (turnOf which d n q j) (tableView n t.old) out.old count.old (tableView n t.new) out.new count.new × Shaped t.new }
+    ensures { Does d (1) (turn_of which d n q j) (table_view n t.old) out.old count.old (table_view n t.new) out.new count.new × Shaped t.new }
 {
     let r = *count;
     let after = r + 1;
@@ -65,7 +65,7 @@ pub fn each_later(
     requires dimension { Dimension d × (n ≤ 16) }
     requires places { (q < n) × ((j : ℕ) (u : List Pauli) → q < j → Asks which d n q j u) }
     requires room { (8 * (count.old + (n - suc q)) ≤ length out.old) × Shaped t.old }
-    ensures { Does d (n - suc q) (each (turnOf which d n q) (later d n q)) (tableView n t.old) out.old count.old (tableView n t.new) out.new count.new × Shaped t.new }
+    ensures { Does d (n - suc q) (each (turn_of which d n q) (later d n q)) (table_view n t.old) out.old count.old (table_view n t.new) out.new count.new × Shaped t.new }
 {
     for j in q + 1..n {
         one_turn(t, which, j, q, d, n, out, count);

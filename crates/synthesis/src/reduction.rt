@@ -3,10 +3,10 @@
 ghost use Rattle.std.specs.Prelude.{◌≡◌, suc, ◌+◌, ◌*◌, ◌-◌, ◌≤◌, ◌<◌, length};
 ghost use Rattle.arith.specs.Units.{IsUnit};
 ghost use Rattle.arith.specs.Refusals.{Dimension};
-ghost use Rattle.tableau.specs.Tableau.{WellFormed, Sound, column, upFrom};
-ghost use Rattle.tableau.specs.inner.View.{tableView, Shaped};
-ghost use Rattle.synthesis.specs.inner.Reduce.{start, vAt, each, clearing, noV, straighten, gathered, firstColumn, partnerStraightened, secondColumn, stage, phases};
-ghost use Rattle.synthesis.specs.inner.Progress.{Does};
+ghost use Rattle.tableau.specs.Tableau.{WellFormed, Sound, column, up_from};
+ghost use Rattle.tableau.specs.Inner.View.{table_view, Shaped};
+ghost use Rattle.synthesis.specs.Inner.Reduce.{start, v_at, each, clearing, no_v, straighten, gathered, first_column, partner_straightened, second_column, stage, phases};
+ghost use Rattle.synthesis.specs.Inner.Progress.{Does};
 
 use crate::put::{each_later, one_turn};
 use crate::turns::Turn;
@@ -15,7 +15,7 @@ use tableau::table::{v_at, w_at};
 // Whether v of column c is 0 at qudit `from` and every later one.
 fn no_v(t: &[[u16; 33]; 32], c: usize, from: usize, n: usize) -> bool
     requires { (n ≤ 16) × ((c < 2 * n) × (from ≤ n)) }
-    ensures { result ≡ noV (column n (tableView n t.now) c) (upFrom from (n - from)) }
+    ensures { result ≡ no_v (column n (table_view n t.now) c) (up_from from (n - from)) }
 {
     for i in from..n {
         if v_at(t, c, i).value() != 0 {
@@ -29,7 +29,7 @@ fn no_v(t: &[[u16; 33]; 32], c: usize, from: usize, n: usize) -> bool
 fn clearing(t: &[[u16; 33]; 32], c: usize, j: usize, d: u16, n: usize) -> u16
     requires dimension { Dimension d × (n ≤ 16) }
     requires places { (c < 2 * n) × (j < n) }
-    ensures { result ≡ clearing d n c j (tableView n t.now) }
+    ensures { result ≡ clearing d n c j (table_view n t.now) }
 {
     arith::divisor::quotient(v_at(t, c, j), w_at(t, c, j).negative(d), d)
 }
@@ -47,7 +47,7 @@ fn straighten(
     requires dimension { Dimension d × (n ≤ 16) }
     requires places { (c < 2 * n) × (j < n) }
     requires room { (8 * (count.old + 3) ≤ length out.old) × Shaped t.old }
-    ensures { Does d (3) (straighten d n c j) (tableView n t.old) out.old count.old (tableView n t.new) out.new count.new × Shaped t.new }
+    ensures { Does d (3) (straighten d n c j) (table_view n t.old) out.old count.old (table_view n t.new) out.new count.new × Shaped t.new }
 {
     let k = clearing(t, c, j, d, n);
     if k < d {
@@ -73,7 +73,7 @@ fn straighten_from(
     requires dimension { Dimension d × (n ≤ 16) }
     requires places { (c < 2 * n) × (from ≤ n) }
     requires room { (8 * (count.old + (3 * (n - from))) ≤ length out.old) × Shaped t.old }
-    ensures { Does d (3 * (n - from)) (each (straighten d n c) (upFrom from (n - from))) (tableView n t.old) out.old count.old (tableView n t.new) out.new count.new × Shaped t.new }
+    ensures { Does d (3 * (n - from)) (each (straighten d n c) (up_from from (n - from))) (table_view n t.old) out.old count.old (table_view n t.new) out.new count.new × Shaped t.new }
 {
     for j in from..n {
         straighten(t, c, j, d, n, out, count);
@@ -83,9 +83,9 @@ fn straighten_from(
 // Column q becomes unit q up to phase.
 fn unit_x(t: &mut [[u16; 33]; 32], q: usize, d: u16, n: usize, out: &mut [u8], count: &mut usize)
     requires dimension { Dimension d × (n ≤ 16) }
-    requires places { (q < n) × IsUnit d (vAt n (gathered d n q (start (tableView n t.old))) q q) }
+    requires places { (q < n) × IsUnit d (v_at n (gathered d n q (start (table_view n t.old))) q q) }
     requires room { (8 * (count.old + (5 * (n - suc q) + 4)) ≤ length out.old) × Shaped t.old }
-    ensures { Does d (5 * (n - suc q) + 4) (firstColumn d n q) (tableView n t.old) out.old count.old (tableView n t.new) out.new count.new × Shaped t.new }
+    ensures { Does d (5 * (n - suc q) + 4) (first_column d n q) (table_view n t.old) out.old count.old (table_view n t.new) out.new count.new × Shaped t.new }
 {
     straighten_from(t, q, q, d, n, out, count);
     each_later(t, Turn::Gather, q, d, n, out, count);
@@ -98,7 +98,7 @@ fn clear_w(t: &mut [[u16; 33]; 32], q: usize, d: u16, n: usize, out: &mut [u8], 
     requires dimension { Dimension d × (n ≤ 16) }
     requires places { q < n }
     requires room { (8 * (count.old + (3 * (n - suc q))) ≤ length out.old) × Shaped t.old }
-    ensures { Does d (3 * (n - suc q)) (partnerStraightened d n q) (tableView n t.old) out.old count.old (tableView n t.new) out.new count.new × Shaped t.new }
+    ensures { Does d (3 * (n - suc q)) (partner_straightened d n q) (table_view n t.old) out.old count.old (table_view n t.new) out.new count.new × Shaped t.new }
 {
     if no_v(t, n + q, q + 1, n) {
         each_later(t, Turn::ClearPartnerW, q, d, n, out, count);
@@ -112,7 +112,7 @@ fn unit_z(t: &mut [[u16; 33]; 32], q: usize, d: u16, n: usize, out: &mut [u8], c
     requires dimension { Dimension d × (n ≤ 16) }
     requires places { q < n }
     requires room { (8 * (count.old + (n - suc q + 3)) ≤ length out.old) × Shaped t.old }
-    ensures { Does d (n - suc q + 3) (secondColumn d n q) (tableView n t.old) out.old count.old (tableView n t.new) out.new count.new × Shaped t.new }
+    ensures { Does d (n - suc q + 3) (second_column d n q) (table_view n t.old) out.old count.old (table_view n t.new) out.new count.new × Shaped t.new }
 {
     if no_v(t, n + q, q, n) {
         return;
@@ -133,9 +133,9 @@ fn one_stage(
     count: &mut usize,
 ) -> [[u16; 33]; 32]
     requires dimension { Dimension d × (n ≤ 16) }
-    requires places { (q < n) × IsUnit d (vAt n (gathered d n q (start (tableView n t))) q q) }
+    requires places { (q < n) × IsUnit d (v_at n (gathered d n q (start (table_view n t))) q q) }
     requires room { 8 * (count.old + (9 * (n - suc q) + 7)) ≤ length out.old }
-    ensures { Does d (9 * (n - suc q) + 7) (stage d n q) (tableView n t) out.old count.old (tableView n result) out.new count.new }
+    ensures { Does d (9 * (n - suc q) + 7) (stage d n q) (table_view n t) out.old count.old (table_view n result) out.new count.new }
 {
     let mut s = t;
     unit_x(&mut s, q, d, n, out, count);
@@ -153,9 +153,9 @@ pub fn all_stages(
     count: &mut usize,
 ) -> [[u16; 33]; 32]
     requires dimension { Dimension d × (n ≤ 16) }
-    requires sound { WellFormed d n (tableView n t) × Sound d n (tableView n t) }
+    requires sound { WellFormed d n (table_view n t) × Sound d n (table_view n t) }
     requires room { 8 * (count.old + (5 * (n * n) + 4 * n)) ≤ length out.old }
-    ensures { Does d (5 * (n * n) + 4 * n) (each (stage d n) (upFrom 0 n)) (tableView n t) out.old count.old (tableView n result) out.new count.new }
+    ensures { Does d (5 * (n * n) + 4 * n) (each (stage d n) (up_from 0 n)) (table_view n t) out.old count.old (table_view n result) out.new count.new }
 {
     let mut s = t;
     for q in 0..n {
@@ -177,7 +177,7 @@ fn clear_phases(
     requires dimension { Dimension d × (n ≤ 16) }
     requires places { i < n }
     requires room { 8 * (count.old + 2) ≤ length out.old }
-    ensures { Does d (2) (phases d n i) (tableView n t) out.old count.old (tableView n result) out.new count.new }
+    ensures { Does d (2) (phases d n i) (table_view n t) out.old count.old (table_view n result) out.new count.new }
 {
     let mut s = t;
     one_turn(&mut s, Turn::PhaseZ, i, i, d, n, out, count);
@@ -195,7 +195,7 @@ pub fn all_phases(
 ) -> [[u16; 33]; 32]
     requires dimension { Dimension d × (n ≤ 16) }
     requires room { 8 * (count.old + 2 * n) ≤ length out.old }
-    ensures { Does d (2 * n) (each (phases d n) (upFrom 0 n)) (tableView n t) out.old count.old (tableView n result) out.new count.new }
+    ensures { Does d (2 * n) (each (phases d n) (up_from 0 n)) (table_view n t) out.old count.old (table_view n result) out.new count.new }
 {
     let mut s = t;
     for i in 0..n {

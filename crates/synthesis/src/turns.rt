@@ -3,12 +3,12 @@ ghost use Rattle.std.specs.Prelude.{◌≡◌, cond, List, ℕ, ◌*◌, ◌≤�
 ghost use Rattle.arith.specs.Units.{IsUnit};
 ghost use Rattle.arith.specs.Refusals.{Dimension};
 ghost use Rattle.pauli.specs.Pauli.{Pauli};
-ghost use Rattle.gates.specs.Written.{onOne, onTwo};
-ghost use Rattle.gates.specs.inner.View.{viewRow};
-ghost use Rattle.tableau.specs.inner.View.{tableView};
-ghost use Rattle.synthesis.specs.inner.Reduce.{putS, putM};
-ghost use Rattle.synthesis.specs.inner.Progress.{Says};
-ghost use Rattle.synthesis.specs.inner.Turns.{turnOf, Asks};
+ghost use Rattle.gates.specs.Written.{on_one, on_two};
+ghost use Rattle.gates.specs.Inner.View.{view_row};
+ghost use Rattle.tableau.specs.Inner.View.{table_view};
+ghost use Rattle.synthesis.specs.Inner.Reduce.{put_s, put_m};
+ghost use Rattle.synthesis.specs.Inner.Progress.{Says};
+ghost use Rattle.synthesis.specs.Inner.Turns.{turn_of, Asks};
 
 use arith::residue::Residue;
 use gates::Row;
@@ -34,7 +34,7 @@ pub enum Turn {
 // A row on qudit i, counted from 0.
 fn on_one(kind: u16, i: usize, k: u16) -> Row
     requires { i < 16 }
-    ensures { viewRow result ≡ onOne kind i k }
+    ensures { view_row result ≡ on_one kind i k }
 {
     Row {
         kind: kind,
@@ -47,7 +47,7 @@ fn on_one(kind: u16, i: usize, k: u16) -> Row
 // A from qudit i to qudit j.
 fn by_a(i: usize, j: usize, k: Residue) -> Row
     requires { (i < 16) × (j < 16) }
-    ensures { viewRow result ≡ onTwo 3 i j k.0 }
+    ensures { view_row result ≡ on_two 3 i j k.0 }
 {
     Row {
         kind: 3,
@@ -70,7 +70,7 @@ fn exchange_power(w: Residue, d: u16) -> u16
 // S on qudit i, with the power nearer to 0 of the two that do to the entries what k does.
 fn by_s(i: usize, k: u16, d: u16) -> Row
     requires { Dimension d × (i < 16) }
-    ensures { (n : ℕ) (t : List Pauli) → i < n → Says d n (putS d i k) t (viewRow result) }
+    ensures { (n : ℕ) (t : List Pauli) → i < n → Says d n (put_s d i k) t (view_row result) }
 {
     let low = k % d;
     if low == 0 {
@@ -85,7 +85,7 @@ fn by_s(i: usize, k: u16, d: u16) -> Row
 // M on qudit i; a power of 1 is no row.
 fn by_m(i: usize, k: Residue) -> Row
     requires { i < 16 }
-    ensures { (d n : ℕ) (t : List Pauli) → 1 < d → k.0 < d → IsUnit d k.0 → i < n → Says d n (putM d i k.0) t (viewRow result) }
+    ensures { (d n : ℕ) (t : List Pauli) → 1 < d → k.0 < d → IsUnit d k.0 → i < n → Says d n (put_m d i k.0) t (view_row result) }
 {
     let power = k.value();
     if power == 1 {
@@ -98,8 +98,8 @@ fn by_m(i: usize, k: Residue) -> Row
 pub fn next_row(t: &[[u16; 33]; 32], which: Turn, j: usize, q: usize, d: u16, n: usize) -> Row
     requires dimension { Dimension d × (n ≤ 16) }
     requires places { (q ≤ j) × (j < n) }
-    requires asks { Asks which d n q j (tableView n t.now) }
-    ensures { Says d n (turnOf which d n q j) (tableView n t.now) (viewRow result) }
+    requires asks { Asks which d n q j (table_view n t.now) }
+    ensures { Says d n (turn_of which d n q j) (table_view n t.now) (view_row result) }
 {
     match which {
         Turn::GatherW(c) => by_s(

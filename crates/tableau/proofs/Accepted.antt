@@ -4,48 +4,48 @@ use mathlib.Core.List.{List}
 use mathlib.Core.Bool.{true}
 use Prim.Native.Nat.{ℕ, ◌≤◌}
 use lib.ListN.{length}
-use Rattle.arith.specs.Refusals.{orElse, givenOf, listSizeOf, roomOf}
-use Rattle.arith.proofs.Refusals.{orElse-none, orElse-assoc, Given, given-good, size-good, room-good, row-good}
+use Rattle.arith.specs.Refusals.{or_else, given_of, list_size_of, room_of}
+use Rattle.arith.proofs.Refusals.{or_else_none, or_else_assoc, Given, given_good, size_good, room_good, row_good}
 use Rattle.pauli.specs.Bytes.{decode}
-use Rattle.gates.specs.Written.{listRows, allLegalRows}
+use Rattle.gates.specs.Written.{list_rows, all_legal_rows}
 use Rattle.tableau.specs.Tableau.{WellFormed, Sound}
-use Rattle.tableau.specs.Bytes.{tableauBytes, decodeTableau}
-use Rattle.tableau.specs.Calls.{tableauRefusal, imageRefusal, composeRefusal, inverseRefusal}
-use Rattle.tableau.specs.inner.Parts.{sizedOf, imageLengths, composeLengths, inverseLengths, testsOf, imageTests, composeTests}
+use Rattle.tableau.specs.Bytes.{tableau_bytes, decode_tableau}
+use Rattle.tableau.specs.Calls.{tableau_refusal, image_refusal, compose_refusal, inverse_refusal}
+use Rattle.tableau.specs.Inner.Parts.{sized_of, image_lengths, compose_lengths, inverse_lengths, tests_of, image_tests, compose_tests}
 
 -- a tableau in bytes that is taken: of the right length, in range and sound
 pub record Taken (d n : ℕ) (b : List ℕ) : Type 0 where
-  pub size : length b ≡ tableauBytes n
-  pub formed : WellFormed d n (decodeTableau n b)
-  pub sound : Sound d n (decodeTableau n b)
+  pub size : length b ≡ tableau_bytes n
+  pub formed : WellFormed d n (decode_tableau n b)
+  pub sound : Sound d n (decode_tableau n b)
 
 -- ---- past 1, 2 and 3 of a tableau
 pub record Sized (d n have : ℕ) : Type 0 where
   pub given : Given d n
-  pub size : have ≡ tableauBytes n
+  pub size : have ≡ tableau_bytes n
 
-pub sized-good : {d n have : ℕ} → sizedOf d n have ≡ 0 → Sized d n have
-sized-good {d} {n} e = let z = orElse-none (givenOf d n) _ e in record { given = given-good z.0; size = size-good z.1 }
+pub sized_good : {d n have : ℕ} → sized_of d n have ≡ 0 → Sized d n have
+sized_good {d} {n} e = let z = or_else_none (given_of d n) _ e in record { given = given_good z.0; size = size_good z.1 }
 
 -- ---- each call's refusal is that of its lengths, and past these that of its numbers
-pub image-parts : (d n : ℕ) (t p : List ℕ) (room : ℕ) → imageRefusal d n t p room ≡ orElse (imageLengths d n (length t) (length p) room) (imageTests d n (decodeTableau n t) (decode n p))
-image-parts d n t p room = simp orElse-assoc
+pub image_parts : (d n : ℕ) (t p : List ℕ) (room : ℕ) → image_refusal d n t p room ≡ or_else (image_lengths d n (length t) (length p) room) (image_tests d n (decode_tableau n t) (decode n p))
+image_parts d n t p room = simp or_else_assoc
 
-pub compose-parts : (d n : ℕ) (t u : List ℕ) (room : ℕ) → composeRefusal d n t u room ≡ orElse (composeLengths d n (length t) (length u) room) (composeTests d n (decodeTableau n t) (decodeTableau n u))
-compose-parts d n t u room = simp orElse-assoc
+pub compose_parts : (d n : ℕ) (t u : List ℕ) (room : ℕ) → compose_refusal d n t u room ≡ or_else (compose_lengths d n (length t) (length u) room) (compose_tests d n (decode_tableau n t) (decode_tableau n u))
+compose_parts d n t u room = simp or_else_assoc
 
-pub inverse-parts : (d n : ℕ) (t : List ℕ) (room : ℕ) → inverseRefusal d n t room ≡ orElse (inverseLengths d n (length t) room) (testsOf d n (decodeTableau n t))
-inverse-parts d n t room = simp orElse-assoc
+pub inverse_parts : (d n : ℕ) (t : List ℕ) (room : ℕ) → inverse_refusal d n t room ≡ or_else (inverse_lengths d n (length t) room) (tests_of d n (decode_tableau n t))
+inverse_parts d n t room = simp or_else_assoc
 
 -- ---- the tableau of a list
 pub record TableauAccepted (d n : ℕ) (list : List ℕ) (room : ℕ) : Type 0 where
   pub given : Given d n
-  pub fits : tableauBytes n ≤ room
-  pub legal : allLegalRows d n (listRows list) ≡ true
+  pub fits : tableau_bytes n ≤ room
+  pub legal : all_legal_rows d n (list_rows list) ≡ true
 
-pub tableau-accepted : {d n : ℕ} (list : List ℕ) (room : ℕ) → tableauRefusal d n list room ≡ 0 → TableauAccepted d n list room
-tableau-accepted {d} {n} list room e =
-    let a = orElse-none (givenOf d n) _ e in
-    let b = orElse-none (listSizeOf (length list)) _ a.1 in
-    let c = orElse-none (roomOf (tableauBytes n) room) _ b.1 in
-    record { given = given-good a.0; fits = room-good c.0; legal = row-good (allLegalRows d n (listRows list)) c.1 }
+pub tableau_accepted : {d n : ℕ} (list : List ℕ) (room : ℕ) → tableau_refusal d n list room ≡ 0 → TableauAccepted d n list room
+tableau_accepted {d} {n} list room e =
+    let a = or_else_none (given_of d n) _ e in
+    let b = or_else_none (list_size_of (length list)) _ a.1 in
+    let c = or_else_none (room_of (tableau_bytes n) room) _ b.1 in
+    record { given = given_good a.0; fits = room_good c.0; legal = row_good (all_legal_rows d n (list_rows list)) c.1 }

@@ -6,132 +6,132 @@ use native.Mathlib.Nat.{mul-le-mul, zero-add}
 use native.Mathlib.Omega.{arith}
 use lib.ListN.{length, take, drop, length-append}
 use lib.Seq.{sets, length-sets, split_at, length-take-le}
-use Rattle.arith.specs.Bytes.{tab, bytesOf, front}
-use Rattle.arith.proofs.Bytes.{tab-none, tab-more, tab-length, tab-ext, tab-list, bytes-length, write-more, write-front}
-use Rattle.arith.proofs.Refusals.{orElse-none}
-use Rattle.arith.proofs.Passes.{both-pass}
-use Rattle.pauli.specs.Pauli.{Pauli, InRange, phaseOnly}
-use Rattle.pauli.specs.Bytes.{decodeAt, numbersOf, encode}
-use Rattle.pauli.specs.Range.{pauliRangeOf}
-use Rattle.pauli.proofs.Ranges.{entries-length}
-use Rattle.pauli.proofs.RangeChecks.{pauli-passes}
-use Rattle.pauli.proofs.Encoding.{decode-range, decodeAt-encode}
+use Rattle.arith.specs.Bytes.{tab, bytes_of, front}
+use Rattle.arith.proofs.Bytes.{tab_none, tab_more, tab_length, tab_ext, tab_list, bytes_length, write_more, write_front}
+use Rattle.arith.proofs.Refusals.{or_else_none}
+use Rattle.arith.proofs.Passes.{both_pass}
+use Rattle.pauli.specs.Pauli.{Pauli, InRange, phase_only}
+use Rattle.pauli.specs.Bytes.{decode_at, numbers_of, encode}
+use Rattle.pauli.specs.Range.{pauli_range_of}
+use Rattle.pauli.proofs.Ranges.{entries_length}
+use Rattle.pauli.proofs.RangeChecks.{pauli_passes}
+use Rattle.pauli.proofs.Encoding.{decode_range, decode_at_encode}
 use Rattle.tableau.specs.Tableau.{column, AllInRange, none, more, WellFormed}
-use Rattle.tableau.specs.Bytes.{tableauBytes, columnAt, decodeTableau, tableauNumbers, encodeTableau}
-use Rattle.tableau.specs.Range.{tableauRangeOf}
-use Rattle.tableau.proofs.Columns.{column-range}
+use Rattle.tableau.specs.Bytes.{tableau_bytes, column_at, decode_tableau, tableau_numbers, encode_tableau}
+use Rattle.tableau.specs.Range.{tableau_range_of}
+use Rattle.tableau.proofs.Columns.{column_range}
 
 -- ---- where column j stands, and how long a tableau is
-pub column-small : (n j : ℕ) → n ≤ 16 → j ≤ 32 → j * (1 + 2 * n) ≤ 1056
-column-small n j h l = let k : 1 + 2 * n ≤ 33 = omega arith in omega (arith, mul-le-mul l k)
+pub column_small : (n j : ℕ) → n ≤ 16 → j ≤ 32 → j * (1 + 2 * n) ≤ 1056
+column_small n j h l = let k : 1 + 2 * n ≤ 33 = omega arith in omega (arith, mul-le-mul l k)
 
-pub tableau-small : (n : ℕ) → n ≤ 16 → tableauBytes n ≤ 2112
-tableau-small n h = omega (arith, column-small n (2 * n) h (omega arith))
+pub tableau_small : (n : ℕ) → n ≤ 16 → tableau_bytes n ≤ 2112
+tableau_small n h = omega (arith, column_small n (2 * n) h (omega arith))
 
 -- ---- decoding
-pub decode-length : (n : ℕ) (b : List ℕ) → length (decodeTableau n b) ≡ 2 * n
-unfolding decodeTableau
-decode-length n b = tab-length (λ j. columnAt n j b) (2 * n)
+pub decode_length : (n : ℕ) (b : List ℕ) → length (decode_tableau n b) ≡ 2 * n
+unfolding decode_tableau
+decode_length n b = tab_length (λ j. column_at n j b) (2 * n)
 
-pub decode-table : (n : ℕ) (b : List ℕ) → decodeTableau n b ≡ tab (λ j. columnAt n j b) (2 * n)
-unfolding decodeTableau
-decode-table n b = refl
+pub decode_table : (n : ℕ) (b : List ℕ) → decode_tableau n b ≡ tab (λ j. column_at n j b) (2 * n)
+unfolding decode_tableau
+decode_table n b = refl
 
 -- what is decoded has 2n columns of n entries of each kind, so it is well formed once 5 is past
-pub ranges-good : {d n : ℕ} (f : ℕ → ℕ) (b : List ℕ) (m : ℕ) → tableauRangeOf d (tab (λ j. decodeAt n (f j) b) m) ≡ 0 → AllInRange d n (tab (λ j. decodeAt n (f j) b) m)
-unfolding tab tableauRangeOf
-ranges-good f b zero e = none
-ranges-good {d} {n} f b (suc m) e =
-    let z = orElse-none (pauliRangeOf d (decodeAt n (f 0) b)) _ e in
-    more (decode-range (f 0) b z.0) (ranges-good (λ j. f (suc j)) b m z.1)
+pub ranges_good : {d n : ℕ} (f : ℕ → ℕ) (b : List ℕ) (m : ℕ) → tableau_range_of d (tab (λ j. decode_at n (f j) b) m) ≡ 0 → AllInRange d n (tab (λ j. decode_at n (f j) b) m)
+unfolding tab tableau_range_of
+ranges_good f b zero e = none
+ranges_good {d} {n} f b (suc m) e =
+    let z = or_else_none (pauli_range_of d (decode_at n (f 0) b)) _ e in
+    more (decode_range (f 0) b z.0) (ranges_good (λ j. f (suc j)) b m z.1)
 
-pub decode-formed : {d n : ℕ} (b : List ℕ) → tableauRangeOf d (decodeTableau n b) ≡ 0 → WellFormed d n (decodeTableau n b)
-unfolding decodeTableau
-decode-formed {n = n} b e = record { columns = decode-length n b; ranges = ranges-good (λ j. j * (1 + 2 * n)) b (2 * n) e }
+pub decode_formed : {d n : ℕ} (b : List ℕ) → tableau_range_of d (decode_tableau n b) ≡ 0 → WellFormed d n (decode_tableau n b)
+unfolding decode_tableau
+decode_formed {n = n} b e = record { columns = decode_length n b; ranges = ranges_good (λ j. j * (1 + 2 * n)) b (2 * n) e }
 
 -- and every tableau in range passes 5
-pub ranges-pass : {d n : ℕ} {t : List Pauli} → AllInRange d n t → tableauRangeOf d t ≡ 0
-unfolding tableauRangeOf
-ranges-pass none = refl
-ranges-pass (more r rs) = both-pass (pauli-passes r) (ranges-pass rs)
+pub ranges_pass : {d n : ℕ} {t : List Pauli} → AllInRange d n t → tableau_range_of d t ≡ 0
+unfolding tableau_range_of
+ranges_pass none = refl
+ranges_pass (more r rs) = both_pass (pauli_passes r) (ranges_pass rs)
 
 -- ---- the numbers of columns
-pub numbers-length : {d n : ℕ} {p : Pauli} → InRange d n p → length (numbersOf p) ≡ 1 + 2 * n
-numbers-length r = omega (arith, entries-length r)
+pub numbers_length : {d n : ℕ} {p : Pauli} → InRange d n p → length (numbers_of p) ≡ 1 + 2 * n
+numbers_length r = omega (arith, entries_length r)
 
-pub all-length : {d n : ℕ} {t : List Pauli} → AllInRange d n t → length (tableauNumbers t) ≡ length t * (1 + 2 * n)
-all-length {n = n} none = omega arith
-all-length {n = n} (more {c = c} {cs = cs} r rs) = length-append (numbersOf c) (tableauNumbers cs) ∙ omega (arith, numbers-length r, all-length rs)
+pub all_length : {d n : ℕ} {t : List Pauli} → AllInRange d n t → length (tableau_numbers t) ≡ length t * (1 + 2 * n)
+all_length {n = n} none = omega arith
+all_length {n = n} (more {c = c} {cs = cs} r rs) = length-append (numbers_of c) (tableau_numbers cs) ∙ omega (arith, numbers_length r, all_length rs)
 
-pub numbers-tableau : {d n : ℕ} {t : List Pauli} → WellFormed d n t → length (tableauNumbers t) ≡ 2 * n * (1 + 2 * n)
-numbers-tableau {n = n} g = all-length g.ranges ∙ ap (λ (m : ℕ). m * (1 + 2 * n)) g.columns
+pub numbers_tableau : {d n : ℕ} {t : List Pauli} → WellFormed d n t → length (tableau_numbers t) ≡ 2 * n * (1 + 2 * n)
+numbers_tableau {n = n} g = all_length g.ranges ∙ ap (λ (m : ℕ). m * (1 + 2 * n)) g.columns
 
 -- ---- what is encoded, and followed by any bytes, is decoded again
-numbers-append : (t u : List Pauli) → tableauNumbers (t ++ u) ≡ tableauNumbers t ++ tableauNumbers u
-numbers-append [] u = refl
-numbers-append (c ∷ t) u = ap (λ (l : List ℕ). numbersOf c ++ l) (numbers-append t u) ∙ sym (append_assoc (numbersOf c) (tableauNumbers t) (tableauNumbers u))
+numbers_append : (t u : List Pauli) → tableau_numbers (t ++ u) ≡ tableau_numbers t ++ tableau_numbers u
+numbers_append [] u = refl
+numbers_append (c ∷ t) u = ap (λ (l : List ℕ). numbers_of c ++ l) (numbers_append t u) ∙ sym (append_assoc (numbers_of c) (tableau_numbers t) (tableau_numbers u))
 
-take-range : {d n : ℕ} {t : List Pauli} (j : ℕ) → AllInRange d n t → AllInRange d n (take j t)
-take-range zero rs = none
-take-range (suc j) none = none
-take-range (suc j) (more r rs) = more r (take-range j rs)
+take_range : {d n : ℕ} {t : List Pauli} (j : ℕ) → AllInRange d n t → AllInRange d n (take j t)
+take_range zero rs = none
+take_range (suc j) none = none
+take_range (suc j) (more r rs) = more r (take_range j rs)
 
 -- column j among the others
-column-encode : {d n : ℕ} {t : List Pauli} (rest : List ℕ) (j : ℕ) → 0 < d → AllInRange d n t → j < length t → columnAt n j (bytesOf (tableauNumbers t) ++ rest) ≡ column n t j
-column-encode {d} {n} {t} rest j pos rs h =
-    ap (λ (l : List ℕ). columnAt n j (bytesOf l ++ rest)) (ap tableauNumbers (split_at t j (phaseOnly n 0) h) ∙ numbers-append (take j t) (column n t j ∷ drop (suc j) t))
-    ∙ decodeAt-encode n (j * (1 + 2 * n)) (column n t j) (tableauNumbers (take j t)) (tableauNumbers (drop (suc j) t)) rest before c.v-length c.w-length
+column_encode : {d n : ℕ} {t : List Pauli} (rest : List ℕ) (j : ℕ) → 0 < d → AllInRange d n t → j < length t → column_at n j (bytes_of (tableau_numbers t) ++ rest) ≡ column n t j
+column_encode {d} {n} {t} rest j pos rs h =
+    ap (λ (l : List ℕ). column_at n j (bytes_of l ++ rest)) (ap tableau_numbers (split_at t j (phase_only n 0) h) ∙ numbers_append (take j t) (column n t j ∷ drop (suc j) t))
+    ∙ decode_at_encode n (j * (1 + 2 * n)) (column n t j) (tableau_numbers (take j t)) (tableau_numbers (drop (suc j) t)) rest before c.v_length c.w_length
   where
     c : InRange d n (column n t j)
-    c = column-range j pos rs
+    c = column_range j pos rs
 
-    before : j * (1 + 2 * n) ≡ length (tableauNumbers (take j t))
-    before = sym (all-length (take-range j rs) ∙ ap (λ (m : ℕ). m * (1 + 2 * n)) (length-take-le j t (omega arith)))
+    before : j * (1 + 2 * n) ≡ length (tableau_numbers (take j t))
+    before = sym (all_length (take_range j rs) ∙ ap (λ (m : ℕ). m * (1 + 2 * n)) (length-take-le j t (omega arith)))
 
-pub decode-encode : {d n : ℕ} {t : List Pauli} (rest : List ℕ) → 0 < d → WellFormed d n t → decodeTableau n (encodeTableau t ++ rest) ≡ t
-unfolding decodeTableau encodeTableau
-decode-encode {n = n} {t} rest pos g =
-    tab-ext _ (column n t) (2 * n) (λ j l. column-encode rest j pos g.ranges (omega (arith, g.columns)))
-    ∙ ap (tab (column n t)) (sym g.columns) ∙ tab-list (phaseOnly n 0) t
+pub decode_encode : {d n : ℕ} {t : List Pauli} (rest : List ℕ) → 0 < d → WellFormed d n t → decode_tableau n (encode_tableau t ++ rest) ≡ t
+unfolding decode_tableau encode_tableau
+decode_encode {n = n} {t} rest pos g =
+    tab_ext _ (column n t) (2 * n) (λ j l. column_encode rest j pos g.ranges (omega (arith, g.columns)))
+    ∙ ap (tab (column n t)) (sym g.columns) ∙ tab_list (phase_only n 0) t
 
 -- ---- writing
 -- columns of 1 + 2n numbers each
-columns-length : (n : ℕ) (g : ℕ → Pauli) (m : ℕ) → ((i : ℕ) → length (numbersOf (g i)) ≡ 1 + 2 * n) → length (tableauNumbers (tab g m)) ≡ m * (1 + 2 * n)
+columns_length : (n : ℕ) (g : ℕ → Pauli) (m : ℕ) → ((i : ℕ) → length (numbers_of (g i)) ≡ 1 + 2 * n) → length (tableau_numbers (tab g m)) ≡ m * (1 + 2 * n)
 unfolding tab
-columns-length n g zero h = omega arith
-columns-length n g (suc m) h = length-append (numbersOf (g 0)) (tableauNumbers (tab (λ i. g (suc i)) m)) ∙ omega (arith, h 0, columns-length n (λ i. g (suc i)) m (λ i. h (suc i)))
+columns_length n g zero h = omega arith
+columns_length n g (suc m) h = length-append (numbers_of (g 0)) (tableau_numbers (tab (λ i. g (suc i)) m)) ∙ omega (arith, h 0, columns_length n (λ i. g (suc i)) m (λ i. h (suc i)))
 
 -- what a loop that writes the columns g 0, g 1, .. has made of the output after j of them
 pub record ColumnsWritten (g : ℕ → Pauli) (old new : List ℕ) (j : ℕ) : Type 0 where
   pub size : length new ≡ length old
-  pub bytes : new ≡ sets old (2 * 0) (encodeTableau (tab g j))
+  pub bytes : new ≡ sets old (2 * 0) (encode_tableau (tab g j))
 
 -- before the first
-pub columns-none : (g : ℕ → Pauli) (old : List ℕ) → ColumnsWritten g old old 0
-unfolding encodeTableau bytesOf
-columns-none g old = record { size = refl; bytes = rw (tab-none g) refl }
+pub columns_none : (g : ℕ → Pauli) (old : List ℕ) → ColumnsWritten g old old 0
+unfolding encode_tableau bytes_of
+columns_none g old = record { size = refl; bytes = rw (tab_none g) refl }
 
 -- after column j
-pub columns-next : (n : ℕ) (g : ℕ → Pauli) {old new next : List ℕ} (j : ℕ) {q : Pauli} → ((i : ℕ) → length (numbersOf (g i)) ≡ 1 + 2 * n) → q ≡ g j
+pub columns_next : (n : ℕ) (g : ℕ → Pauli) {old new next : List ℕ} (j : ℕ) {q : Pauli} → ((i : ℕ) → length (numbers_of (g i)) ≡ 1 + 2 * n) → q ≡ g j
     → ColumnsWritten g old new j → next ≡ sets new (2 * (j * (1 + 2 * n))) (encode q) → ColumnsWritten g old next (j + 1)
-unfolding encodeTableau
-columns-next n g {old} {new} {next} j {q} h e w p = record {
+unfolding encode_tableau
+columns_next n g {old} {new} {next} j {q} h e w p = record {
   size = ap length p ∙ length-sets new (2 * (j * (1 + 2 * n))) (encode q) ∙ w.size;
   bytes =
       p
-      ∙ rw (w.bytes, e) (write-more old 0 (j * (1 + 2 * n)) (tableauNumbers (tab g j)) (numbersOf (g j)) before ∙ ap (λ (z : List ℕ). sets old (2 * 0) (bytesOf z)) one-more);
+      ∙ rw (w.bytes, e) (write_more old 0 (j * (1 + 2 * n)) (tableau_numbers (tab g j)) (numbers_of (g j)) before ∙ ap (λ (z : List ℕ). sets old (2 * 0) (bytes_of z)) one_more);
 }
   where
-    before : j * (1 + 2 * n) ≡ 0 + length (tableauNumbers (tab g j))
-    before = sym (zero-add _ ∙ columns-length n g j h)
+    before : j * (1 + 2 * n) ≡ 0 + length (tableau_numbers (tab g j))
+    before = sym (zero-add _ ∙ columns_length n g j h)
 
-    one-more : tableauNumbers (tab g j) ++ numbersOf (g j) ≡ tableauNumbers (tab g (j + 1))
-    one-more = ap (λ (z : List ℕ). tableauNumbers (tab g j) ++ z) (sym (append-nil (numbersOf (g j)))) ∙ sym (numbers-append (tab g j) (g j ∷ [])) ∙ ap tableauNumbers (sym (tab-more g j))
+    one_more : tableau_numbers (tab g j) ++ numbers_of (g j) ≡ tableau_numbers (tab g (j + 1))
+    one_more = ap (λ (z : List ℕ). tableau_numbers (tab g j) ++ z) (sym (append-nil (numbers_of (g j)))) ∙ sym (numbers_append (tab g j) (g j ∷ [])) ∙ ap tableau_numbers (sym (tab_more g j))
 
 -- after the last of m: all of them at the front of an output that has room
-pub columns-all : (n m : ℕ) {t : List Pauli} (g : ℕ → Pauli) {old new : List ℕ} {j : ℕ} → j ≡ m → t ≡ tab g m → ((i : ℕ) → length (numbersOf (g i)) ≡ 1 + 2 * n) → 2 * (m * (1 + 2 * n)) ≤ length old → ColumnsWritten g old new j → new ≡ front (encodeTableau t) old
-unfolding encodeTableau
-columns-all n m {t = t} g {old} e table h room w =
+pub columns_all : (n m : ℕ) {t : List Pauli} (g : ℕ → Pauli) {old new : List ℕ} {j : ℕ} → j ≡ m → t ≡ tab g m → ((i : ℕ) → length (numbers_of (g i)) ≡ 1 + 2 * n) → 2 * (m * (1 + 2 * n)) ≤ length old → ColumnsWritten g old new j → new ≡ front (encode_tableau t) old
+unfolding encode_tableau
+columns_all n m {t = t} g {old} e table h room w =
     w.bytes
-    ∙ ap (λ (z : List Pauli). sets old (2 * 0) (bytesOf (tableauNumbers z))) (ap (tab g) e ∙ sym table)
-    ∙ write-front old (bytesOf (tableauNumbers t)) (omega (arith, bytes-length (tableauNumbers t), ap (λ (z : List Pauli). length (tableauNumbers z)) table, columns-length n g m h))
+    ∙ ap (λ (z : List Pauli). sets old (2 * 0) (bytes_of (tableau_numbers z))) (ap (tab g) e ∙ sym table)
+    ∙ write_front old (bytes_of (tableau_numbers t)) (omega (arith, bytes_length (tableau_numbers t), ap (λ (z : List Pauli). length (tableau_numbers z)) table, columns_length n g m h))

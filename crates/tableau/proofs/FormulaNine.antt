@@ -9,7 +9,7 @@ use lib.Dec.{ltb, eqb}
 use lib.ListN.{get_or}
 use Rattle.arith.specs.Residues.{neg}
 use Rattle.pauli.specs.Pauli.{Pauli}
-use Rattle.tableau.specs.Tableau.{column, upFrom}
+use Rattle.tableau.specs.Tableau.{column, up_from}
 use Rattle.tableau.specs.Inverse.{inverse}
 use Rattle.tableau.proofs.Examples.{twisted}
 
@@ -19,8 +19,8 @@ sum zero f = 0
 sum (suc m) f = sum m f + f m
 
 -- entry i of column j: v below n, w from n on
-abbrev entriesOf : ℕ → List Pauli → ℕ → ℕ → ℕ
-entriesOf n t i j = get_or ((column n t j).v ++ (column n t j).w) i 0
+abbrev entries_of : ℕ → List Pauli → ℕ → ℕ → ℕ
+entries_of n t i j = get_or ((column n t j).v ++ (column n t j).w) i 0
 
 -- U, with the unit matrix below and left
 abbrev low : ℕ → ℕ → ℕ → ℕ
@@ -35,22 +35,22 @@ abbrev upper : (ℕ → ℕ → ℕ) → ℕ → ℕ → ℕ
 upper m i j = cond (ltb i j) (2 * m i j) (cond (eqb i j) (m i j) 0)
 
 -- (9): h' = −C⁻ᵀ·(h + V_diag(Cᵀ·(2·P_upps(K) + P_diag(K))·C) − Cᵀ-as-V_diag(K)) modulo 2·d, where K = C⁻ᵀ·U·C⁻¹ and C⁻¹ is taken modulo d
-abbrev formulaNine : ℕ → ℕ → List Pauli → List ℕ
-formulaNine d n t =
-    let c = entriesOf n t in
-    let inv = entriesOf n (inverse d n t) in
+abbrev formula_nine : ℕ → ℕ → List Pauli → List ℕ
+formula_nine d n t =
+    let c = entries_of n t in
+    let inv = entries_of n (inverse d n t) in
     let k = around n (low n) inv in
     let inner : ℕ → ℕ = λ i. (column n t i).phase + around n (upper k) c i i + neg (2 * d) (sum (2 * n) (λ l. c l i * k l l)) in
-    map (λ i. neg (2 * d) (sum (2 * n) (λ l. inv l i * inner l)) % (2 * d)) (upFrom 0 (2 * n))
+    map (λ i. neg (2 * d) (sum (2 * n) (λ l. inv l i * inner l)) % (2 * d)) (up_from 0 (2 * n))
 
--- by the formula the second phase is 2, and in truth it is 0 (`twisted-undone` of Examples: composed in either order it gives the unit Paulis)
-by-formula : formulaNine 2 2 twisted ≡ 1 ∷ 2 ∷ 0 ∷ 0 ∷ []
+-- by the formula the second phase is 2, and in truth it is 0 (`twisted_undone` of Examples: composed in either order it gives the unit Paulis)
+by_formula : formula_nine 2 2 twisted ≡ 1 ∷ 2 ∷ 0 ∷ 0 ∷ []
 unfolding neg
-by-formula = refl
+by_formula = refl
 
-in-truth : map (λ c. c.phase) (inverse 2 2 twisted) ≡ 1 ∷ 0 ∷ 0 ∷ 0 ∷ []
+in_truth : map (λ c. c.phase) (inverse 2 2 twisted) ≡ 1 ∷ 0 ∷ 0 ∷ 0 ∷ []
 unfolding neg
-in-truth = refl
+in_truth = refl
 
-pub formula-nine-differs : formulaNine 2 2 twisted ≡ map (λ c. c.phase) (inverse 2 2 twisted) → ⊥
-formula-nine-differs e = let second : ◌≡◌ {A = ℕ} 2 0 = ap (λ (xs : List ℕ). get_or xs 1 0) (sym by-formula ∙ e ∙ in-truth) in omega arith
+pub formula_nine_differs : formula_nine 2 2 twisted ≡ map (λ c. c.phase) (inverse 2 2 twisted) → ⊥
+formula_nine_differs e = let second : ◌≡◌ {A = ℕ} 2 0 = ap (λ (xs : List ℕ). get_or xs 1 0) (sym by_formula ∙ e ∙ in_truth) in omega arith

@@ -6,25 +6,25 @@ use mathlib.Core.Logic.{◌↔◌, ◌⊎◌, inl, inr}
 use Prim.Native.Nat.{ℕ, zero, suc, ◌+◌, ◌*◌, ◌-◌, ◌≤◌, ◌<◌}
 use native.Mathlib.Omega.{arith}
 use lib.Dec.{T, eqb, eqb→eq, eqb_refl}
-use Rattle.arith.specs.Refusals.{orElse, pairingOf, parityOf}
-use Rattle.arith.proofs.Cases.{by-eq, and-l, and-r, and-both}
+use Rattle.arith.specs.Refusals.{or_else, pairing_of, parity_of}
+use Rattle.arith.proofs.Cases.{by_eq, and_l, and_r, and_both}
 use Rattle.pauli.specs.Pauli.{Pauli, comm, parity}
-use Rattle.tableau.specs.Tableau.{column, paired, upFrom, Pairing, Even, Sound}
-use Rattle.tableau.specs.Soundness.{all, pairPasses, laterPass, pairingHolds, evenPasses, parityHolds, soundnessOf}
+use Rattle.tableau.specs.Tableau.{column, paired, up_from, Pairing, Even, Sound}
+use Rattle.tableau.specs.Soundness.{all, pair_passes, later_pass, pairing_holds, even_passes, parity_holds, soundness_of}
 
 -- ---- the loops
-all-to : (test : ℕ → Bool) (a m : ℕ) → T (all test (upFrom a m)) → (i : ℕ) → a ≤ i → i < a + m → T (test i)
-all-to test a zero h i l k = absurd (omega arith)
-all-to test a (suc m) h i l k = by-eq i a
-    (λ e. subst (λ (x : ℕ). T (test x)) (sym e) (and-l (test a) (all test (upFrom (suc a) m)) h))
-    (λ ne. all-to test (suc a) m (and-r (test a) (all test (upFrom (suc a) m)) h) i (omega arith) (omega arith))
+all_to : (test : ℕ → Bool) (a m : ℕ) → T (all test (up_from a m)) → (i : ℕ) → a ≤ i → i < a + m → T (test i)
+all_to test a zero h i l k = absurd (omega arith)
+all_to test a (suc m) h i l k = by_eq i a
+    (λ e. subst (λ (x : ℕ). T (test x)) (sym e) (and_l (test a) (all test (up_from (suc a) m)) h))
+    (λ ne. all_to test (suc a) m (and_r (test a) (all test (up_from (suc a) m)) h) i (omega arith) (omega arith))
 
-all-from : (test : ℕ → Bool) (a m : ℕ) → ((i : ℕ) → a ≤ i → i < a + m → T (test i)) → T (all test (upFrom a m))
-all-from test a zero h = tt
-all-from test a (suc m) h = and-both (test a) (all test (upFrom (suc a) m)) (h a (omega arith) (omega arith)) (all-from test (suc a) m (λ i l k. h i (omega arith) (omega arith)))
+all_from : (test : ℕ → Bool) (a m : ℕ) → ((i : ℕ) → a ≤ i → i < a + m → T (test i)) → T (all test (up_from a m))
+all_from test a zero h = tt
+all_from test a (suc m) h = and_both (test a) (all test (up_from (suc a) m)) (h a (omega arith) (omega arith)) (all_from test (suc a) m (λ i l k. h i (omega arith) (omega arith)))
 
-eqb-of : {x y : ℕ} → x ≡ y → T (eqb x y)
-eqb-of {x} e = subst (λ (z : ℕ). T (eqb x z)) e (eqb_refl x)
+eqb_of : {x y : ℕ} → x ≡ y → T (eqb x y)
+eqb_of {x} e = subst (λ (z : ℕ). T (eqb x z)) e (eqb_refl x)
 
 -- ---- what the number says, where P is pairing and E is parity
 pub record Says (P E : Type 0) (r : ℕ) : Type 0 where
@@ -33,8 +33,8 @@ pub record Says (P E : Type 0) (r : ℕ) : Type 0 where
   pub accepted : (r ≡ 0) ↔ (P × E)
   pub refused : ((r ≡ 7) ⊎ (r ≡ 8)) ↔ ¬ (P × E)
 
-says : {P E : Type 0} (b c : Bool) → T b ↔ P → T c ↔ E → Says P E (orElse (pairingOf b) (parityOf c))
-unfolding pairingOf parityOf
+says : {P E : Type 0} (b c : Bool) → T b ↔ P → T c ↔ E → Says P E (or_else (pairing_of b) (parity_of c))
+unfolding pairing_of parity_of
 says true true p e = record {
   seven = (λ q. absurd (omega arith), λ f. absurd (f (p.0 tt)));
   eight = (λ q. absurd (omega arith), λ f. absurd (f.1 (e.0 tt)));
@@ -58,35 +58,35 @@ says false c p e = record {
   refused = (λ q y. p.1 y.0, λ f. inl refl);
 }
 
-none-left : (b c : Bool) → ¬ ((orElse (pairingOf b) (parityOf c) ≡ 7) ⊎ (orElse (pairingOf b) (parityOf c) ≡ 8)) → orElse (pairingOf b) (parityOf c) ≡ 0
-unfolding pairingOf parityOf
-none-left true true f = refl
-none-left true false f = absurd (f (inr refl))
-none-left false c f = absurd (f (inl refl))
+none_left : (b c : Bool) → ¬ ((or_else (pairing_of b) (parity_of c) ≡ 7) ⊎ (or_else (pairing_of b) (parity_of c) ≡ 8)) → or_else (pairing_of b) (parity_of c) ≡ 0
+unfolding pairing_of parity_of
+none_left true true f = refl
+none_left true false f = absurd (f (inr refl))
+none_left false c f = absurd (f (inl refl))
 
 module _ {d n : ℕ} {t : List Pauli} where
-  pub pairing-test : T (pairingHolds d n t) ↔ Pairing d n t
-  pairing-test = (
+  pub pairing_test : T (pairing_holds d n t) ↔ Pairing d n t
+  pairing_test = (
     λ h. record {
       pairs = λ j k l m. eqb→eq (comm d (column n t j) (column n t k)) (paired d n j k)
-          (all-to (pairPasses d n t j) (suc j) (2 * n - suc j) (all-to (laterPass d n t) 0 (2 * n) h j (omega arith) (omega arith)) k l (omega arith));
+          (all_to (pair_passes d n t j) (suc j) (2 * n - suc j) (all_to (later_pass d n t) 0 (2 * n) h j (omega arith) (omega arith)) k l (omega arith));
     },
-    λ p. all-from (laterPass d n t) 0 (2 * n) (λ j l m. all-from (pairPasses d n t j) (suc j) (2 * n - suc j) (λ k l' m'. eqb-of (p.pairs j k l' (omega arith)))),
+    λ p. all_from (later_pass d n t) 0 (2 * n) (λ j l m. all_from (pair_passes d n t j) (suc j) (2 * n - suc j) (λ k l' m'. eqb_of (p.pairs j k l' (omega arith)))),
   )
 
-  pub parity-test : T (parityHolds d n t) ↔ Even d n t
-  parity-test = (
-    λ h. record { even = λ j l. eqb→eq (parity d (column n t j)) 0 (all-to (evenPasses d n t) 0 (2 * n) h j (omega arith) (omega arith)) },
-    λ p. all-from (evenPasses d n t) 0 (2 * n) (λ j l m. eqb-of (p.even j (omega arith))),
+  pub parity_test : T (parity_holds d n t) ↔ Even d n t
+  parity_test = (
+    λ h. record { even = λ j l. eqb→eq (parity d (column n t j)) 0 (all_to (even_passes d n t) 0 (2 * n) h j (omega arith) (omega arith)) },
+    λ p. all_from (even_passes d n t) 0 (2 * n) (λ j l m. eqb_of (p.even j (omega arith))),
   )
 
-  pub soundness-says : Says (Pairing d n t) (Even d n t) (soundnessOf d n t)
-  soundness-says = says (pairingHolds d n t) (parityHolds d n t) pairing-test parity-test
+  pub soundness_says : Says (Pairing d n t) (Even d n t) (soundness_of d n t)
+  soundness_says = says (pairing_holds d n t) (parity_holds d n t) pairing_test parity_test
 
   -- what holds once 7 and 8 are past
-  pub sound-good : soundnessOf d n t ≡ 0 → Sound d n t
-  sound-good e = let y = soundness-says.accepted.0 e in record { pairing = y.0; parities = y.1 }
+  pub sound_good : soundness_of d n t ≡ 0 → Sound d n t
+  sound_good e = let y = soundness_says.accepted.0 e in record { pairing = y.0; parities = y.1 }
 
 -- there is no other number: where it is neither 7 nor 8 it is 0
-pub neither-none : (d n : ℕ) (t : List Pauli) → ¬ ((soundnessOf d n t ≡ 7) ⊎ (soundnessOf d n t ≡ 8)) → soundnessOf d n t ≡ 0
-neither-none d n t = none-left (pairingHolds d n t) (parityHolds d n t)
+pub neither_none : (d n : ℕ) (t : List Pauli) → ¬ ((soundness_of d n t ≡ 7) ⊎ (soundness_of d n t ≡ 8)) → soundness_of d n t ≡ 0
+neither_none d n t = none_left (pairing_holds d n t) (parity_holds d n t)

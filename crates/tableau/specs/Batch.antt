@@ -3,44 +3,44 @@
 use Rattle.std.specs.Prelude.{List, [], ◌∷◌, ◌++◌, ℕ, ◌+◌, ◌*◌, ◌/◌, length}
 use Rattle.std.proofs.Math.Seq.{slice}
 use Rattle.arith.specs.Bytes.{tab}
-use Rattle.arith.specs.Refusals.{orElse, givenOf, sizeOf, wholeOf, roomOf}
-use Rattle.pauli.specs.Bytes.{pauliBytes}
-use Rattle.tableau.specs.Bytes.{tableauBytes, decodeTableau}
-use Rattle.tableau.specs.Range.{tableauRangeOf}
-use Rattle.tableau.specs.Soundness.{soundnessOf}
-use Rattle.tableau.specs.Calls.{imageRefusal, imageAnswer}
+use Rattle.arith.specs.Refusals.{or_else, given_of, size_of, whole_of, room_of}
+use Rattle.pauli.specs.Bytes.{pauli_bytes}
+use Rattle.tableau.specs.Bytes.{tableau_bytes, decode_tableau}
+use Rattle.tableau.specs.Range.{tableau_range_of}
+use Rattle.tableau.specs.Soundness.{soundness_of}
+use Rattle.tableau.specs.Calls.{image_refusal, image_answer}
 
 -- ---- the Paulis of a batch
 -- the bytes of Pauli j, counted from 0
-abbrev pub pauliAt : ℕ → List ℕ → ℕ → List ℕ
-pauliAt n batch j = slice (j * pauliBytes n) ((j + 1) * pauliBytes n) batch
+abbrev pub pauli_at : ℕ → List ℕ → ℕ → List ℕ
+pauli_at n batch j = slice (j * pauli_bytes n) ((j + 1) * pauli_bytes n) batch
 
 -- all of them, in order
-abbrev pub paulisOf : ℕ → List ℕ → List (List ℕ)
-paulisOf n batch = tab (pauliAt n batch) (length batch / pauliBytes n)
+abbrev pub paulis_of : ℕ → List ℕ → List (List ℕ)
+paulis_of n batch = tab (pauli_at n batch) (length batch / pauli_bytes n)
 
 -- ---- single calls made in order, each with room for one image
 -- the first refusal
-unfoldable pub firstRefusal : ℕ → ℕ → List ℕ → List (List ℕ) → ℕ
-firstRefusal d n t [] = 0
-firstRefusal d n t (p ∷ ps) = orElse (imageRefusal d n t p (pauliBytes n)) (firstRefusal d n t ps)
+unfoldable pub first_refusal : ℕ → ℕ → List ℕ → List (List ℕ) → ℕ
+first_refusal d n t [] = 0
+first_refusal d n t (p ∷ ps) = or_else (image_refusal d n t p (pauli_bytes n)) (first_refusal d n t ps)
 
 -- the answers, end to end
-unfoldable pub answersOf : ℕ → ℕ → List ℕ → List (List ℕ) → List ℕ
-answersOf d n t [] = []
-answersOf d n t (p ∷ ps) = imageAnswer d n t p ++ answersOf d n t ps
+unfoldable pub answers_of : ℕ → ℕ → List ℕ → List (List ℕ) → List ℕ
+answers_of d n t [] = []
+answers_of d n t (p ∷ ps) = image_answer d n t p ++ answers_of d n t ps
 
 -- ---- the images of a batch under t: 1, 2, 3 of t and of the batch, 4 of all images; then the first refusal of the single calls;
 -- then 5, 7 and 8 of t. Each accepted single call has passed these three, so they decide for the empty batch alone.
-abbrev pub imagesRefusal : ℕ → ℕ → List ℕ → List ℕ → ℕ → ℕ
-imagesRefusal d n t batch room =
-    orElse (givenOf d n)
-    (orElse (sizeOf (tableauBytes n) (length t))
-    (orElse (wholeOf (pauliBytes n) 512 (length batch))
-    (orElse (roomOf (length batch) room)
-    (orElse (firstRefusal d n t (paulisOf n batch))
-    (orElse (tableauRangeOf d (decodeTableau n t))
-    (soundnessOf d n (decodeTableau n t)))))))
+abbrev pub images_refusal : ℕ → ℕ → List ℕ → List ℕ → ℕ → ℕ
+images_refusal d n t batch room =
+    or_else (given_of d n)
+    (or_else (size_of (tableau_bytes n) (length t))
+    (or_else (whole_of (pauli_bytes n) 512 (length batch))
+    (or_else (room_of (length batch) room)
+    (or_else (first_refusal d n t (paulis_of n batch))
+    (or_else (tableau_range_of d (decode_tableau n t))
+    (soundness_of d n (decode_tableau n t)))))))
 
-abbrev pub imagesAnswer : ℕ → ℕ → List ℕ → List ℕ → List ℕ
-imagesAnswer d n t batch = answersOf d n t (paulisOf n batch)
+abbrev pub images_answer : ℕ → ℕ → List ℕ → List ℕ → List ℕ
+images_answer d n t batch = answers_of d n t (paulis_of n batch)

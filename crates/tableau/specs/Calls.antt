@@ -1,63 +1,63 @@
 -- The public calls on tableaus in bytes: each call's refusal, in the order of document 01's table over all its inputs, and its answer.
 -- `room` is the output's length.
 use Rattle.std.specs.Prelude.{List, ℕ, length}
-use Rattle.arith.specs.Refusals.{orElse, givenOf, sizeOf, listSizeOf, roomOf, rowOf}
-use Rattle.pauli.specs.Bytes.{pauliBytes, decode, encode}
-use Rattle.pauli.specs.Range.{pauliRangeOf}
-use Rattle.gates.specs.Written.{listRows, rowsOf, allLegalRows}
-use Rattle.tableau.specs.Tableau.{tableauOf, image, compose}
+use Rattle.arith.specs.Refusals.{or_else, given_of, size_of, list_size_of, room_of, row_of}
+use Rattle.pauli.specs.Bytes.{pauli_bytes, decode, encode}
+use Rattle.pauli.specs.Range.{pauli_range_of}
+use Rattle.gates.specs.Written.{list_rows, rows_of, all_legal_rows}
+use Rattle.tableau.specs.Tableau.{tableau_of, image, compose}
 use Rattle.tableau.specs.Inverse.{inverse}
-use Rattle.tableau.specs.Bytes.{tableauBytes, decodeTableau, encodeTableau}
-use Rattle.tableau.specs.Range.{tableauRangeOf}
-use Rattle.tableau.specs.Soundness.{soundnessOf, bothSoundnessOf}
+use Rattle.tableau.specs.Bytes.{tableau_bytes, decode_tableau, encode_tableau}
+use Rattle.tableau.specs.Range.{tableau_range_of}
+use Rattle.tableau.specs.Soundness.{soundness_of, both_soundness_of}
 
 -- ---- the tableau of a list: 1, 2, 3, 4, 6
-abbrev pub tableauRefusal : ℕ → ℕ → List ℕ → ℕ → ℕ
-tableauRefusal d n list room =
-    orElse (givenOf d n)
-    (orElse (listSizeOf (length list))
-    (orElse (roomOf (tableauBytes n) room)
-    (rowOf (allLegalRows d n (listRows list)))))
+abbrev pub tableau_refusal : ℕ → ℕ → List ℕ → ℕ → ℕ
+tableau_refusal d n list room =
+    or_else (given_of d n)
+    (or_else (list_size_of (length list))
+    (or_else (room_of (tableau_bytes n) room)
+    (row_of (all_legal_rows d n (list_rows list)))))
 
-abbrev pub tableauAnswer : ℕ → ℕ → List ℕ → List ℕ
-tableauAnswer d n list = encodeTableau (tableauOf d n (rowsOf list))
+abbrev pub tableau_answer : ℕ → ℕ → List ℕ → List ℕ
+tableau_answer d n list = encode_tableau (tableau_of d n (rows_of list))
 
 -- ---- the image of p under t: 1, 2, 3 of t and of p, 4, 5 of t and of p, 7, 8
-abbrev pub imageRefusal : ℕ → ℕ → List ℕ → List ℕ → ℕ → ℕ
-imageRefusal d n t p room =
-    orElse (givenOf d n)
-    (orElse (sizeOf (tableauBytes n) (length t))
-    (orElse (sizeOf (pauliBytes n) (length p))
-    (orElse (roomOf (pauliBytes n) room)
-    (orElse (tableauRangeOf d (decodeTableau n t))
-    (orElse (pauliRangeOf d (decode n p))
-    (soundnessOf d n (decodeTableau n t)))))))
+abbrev pub image_refusal : ℕ → ℕ → List ℕ → List ℕ → ℕ → ℕ
+image_refusal d n t p room =
+    or_else (given_of d n)
+    (or_else (size_of (tableau_bytes n) (length t))
+    (or_else (size_of (pauli_bytes n) (length p))
+    (or_else (room_of (pauli_bytes n) room)
+    (or_else (tableau_range_of d (decode_tableau n t))
+    (or_else (pauli_range_of d (decode n p))
+    (soundness_of d n (decode_tableau n t)))))))
 
-abbrev pub imageAnswer : ℕ → ℕ → List ℕ → List ℕ → List ℕ
-imageAnswer d n t p = encode (image d n (decodeTableau n t) (decode n p))
+abbrev pub image_answer : ℕ → ℕ → List ℕ → List ℕ → List ℕ
+image_answer d n t p = encode (image d n (decode_tableau n t) (decode n p))
 
 -- ---- t, then u: 1, 2, 3 of both, 4, 5 of both, 7 of both, 8 of both
-abbrev pub composeRefusal : ℕ → ℕ → List ℕ → List ℕ → ℕ → ℕ
-composeRefusal d n t u room =
-    orElse (givenOf d n)
-    (orElse (sizeOf (tableauBytes n) (length t))
-    (orElse (sizeOf (tableauBytes n) (length u))
-    (orElse (roomOf (tableauBytes n) room)
-    (orElse (tableauRangeOf d (decodeTableau n t))
-    (orElse (tableauRangeOf d (decodeTableau n u))
-    (bothSoundnessOf d n (decodeTableau n t) (decodeTableau n u)))))))
+abbrev pub compose_refusal : ℕ → ℕ → List ℕ → List ℕ → ℕ → ℕ
+compose_refusal d n t u room =
+    or_else (given_of d n)
+    (or_else (size_of (tableau_bytes n) (length t))
+    (or_else (size_of (tableau_bytes n) (length u))
+    (or_else (room_of (tableau_bytes n) room)
+    (or_else (tableau_range_of d (decode_tableau n t))
+    (or_else (tableau_range_of d (decode_tableau n u))
+    (both_soundness_of d n (decode_tableau n t) (decode_tableau n u)))))))
 
-abbrev pub composeAnswer : ℕ → ℕ → List ℕ → List ℕ → List ℕ
-composeAnswer d n t u = encodeTableau (compose d n (decodeTableau n t) (decodeTableau n u))
+abbrev pub compose_answer : ℕ → ℕ → List ℕ → List ℕ → List ℕ
+compose_answer d n t u = encode_tableau (compose d n (decode_tableau n t) (decode_tableau n u))
 
 -- ---- the tableau that undoes t: 1, 2, 3, 4, 5, 7, 8
-abbrev pub inverseRefusal : ℕ → ℕ → List ℕ → ℕ → ℕ
-inverseRefusal d n t room =
-    orElse (givenOf d n)
-    (orElse (sizeOf (tableauBytes n) (length t))
-    (orElse (roomOf (tableauBytes n) room)
-    (orElse (tableauRangeOf d (decodeTableau n t))
-    (soundnessOf d n (decodeTableau n t)))))
+abbrev pub inverse_refusal : ℕ → ℕ → List ℕ → ℕ → ℕ
+inverse_refusal d n t room =
+    or_else (given_of d n)
+    (or_else (size_of (tableau_bytes n) (length t))
+    (or_else (room_of (tableau_bytes n) room)
+    (or_else (tableau_range_of d (decode_tableau n t))
+    (soundness_of d n (decode_tableau n t)))))
 
-abbrev pub inverseAnswer : ℕ → ℕ → List ℕ → List ℕ
-inverseAnswer d n t = encodeTableau (inverse d n (decodeTableau n t))
+abbrev pub inverse_answer : ℕ → ℕ → List ℕ → List ℕ
+inverse_answer d n t = encode_tableau (inverse d n (decode_tableau n t))

@@ -2,14 +2,14 @@
 use Rattle.std.specs.Prelude.{List, map, ℕ, ◌+◌, ◌*◌, ◌%◌}
 use Rattle.arith.specs.Residues.{neg}
 use Rattle.pauli.specs.Pauli.{Pauli, comm}
-use Rattle.tableau.specs.Tableau.{upFrom, units, column, image}
+use Rattle.tableau.specs.Tableau.{up_from, units, column, image}
 
 -- the entries of the Pauli that t carries to q up to its phase: column k of −P·Cᵀ·P at q = unit k
 abbrev pub drawn : ℕ → ℕ → List Pauli → Pauli → Pauli
 drawn d n t q = record {
   phase = 0;
-  v = map (λ i. neg d (comm d q (column n t (n + i))) % d) (upFrom 0 n);
-  w = map (λ i. comm d q (column n t i)) (upFrom 0 n);
+  v = map (λ i. neg d (comm d q (column n t (n + i))) % d) (up_from 0 n);
+  w = map (λ i. comm d q (column n t i)) (up_from 0 n);
 }
 
 -- with the phase that makes it exact

@@ -6,4 +6,4 @@ pub mod Bytes
 pub mod Range
 pub mod Calls
 pub mod Batch
-pub mod inner
+pub mod Inner

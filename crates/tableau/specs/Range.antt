@@ -1,9 +1,9 @@
 -- Refusal 5 of document 01's table, for a tableau: over all its columns.
 use Rattle.std.specs.Prelude.{List, [], ◌∷◌, ℕ}
-use Rattle.arith.specs.Refusals.{orElse}
+use Rattle.arith.specs.Refusals.{or_else}
 use Rattle.pauli.specs.Pauli.{Pauli}
-use Rattle.pauli.specs.Range.{pauliRangeOf}
+use Rattle.pauli.specs.Range.{pauli_range_of}
 
-unfoldable pub tableauRangeOf : ℕ → List Pauli → ℕ
-tableauRangeOf d [] = 0
-tableauRangeOf d (c ∷ cs) = orElse (pauliRangeOf d c) (tableauRangeOf d cs)
+unfoldable pub tableau_range_of : ℕ → List Pauli → ℕ
+tableau_range_of d [] = 0
+tableau_range_of d (c ∷ cs) = or_else (pauli_range_of d c) (tableau_range_of d cs)

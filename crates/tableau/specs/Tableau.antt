@@ -1,22 +1,22 @@
 -- Tableaus: 2·n columns, the images of the unit Paulis (document 01, "Tableaus"). Columns count from 0 here.
 use Rattle.std.specs.Prelude.{cond, ◌≡◌, List, [], ◌∷◌, ◌++◌, map, ℕ, zero, suc, ◌+◌, ◌*◌, ◌-◌, ◌<◌, length, get_or, eqb}
-use Rattle.pauli.specs.Pauli.{Pauli, InRange, product, power, comm, unit, parity, phaseOnly}
+use Rattle.pauli.specs.Pauli.{Pauli, InRange, product, power, comm, unit, parity, phase_only}
 use Rattle.gates.specs.Row.{Row, run}
 
 -- the numbers k, k + 1, .. of which there are m
-abbrev pub upFrom : ℕ → ℕ → List ℕ
-upFrom k zero = []
-upFrom k (suc m) = k ∷ upFrom (suc k) m
+abbrev pub up_from : ℕ → ℕ → List ℕ
+up_from k zero = []
+up_from k (suc m) = k ∷ up_from (suc k) m
 
 abbrev pub units : ℕ → List Pauli
-units n = map (unit n) (upFrom 0 (2 * n))
+units n = map (unit n) (up_from 0 (2 * n))
 
-abbrev pub tableauOf : ℕ → ℕ → List Row → List Pauli
-tableauOf d n rows = map (run d rows) (units n)
+abbrev pub tableau_of : ℕ → ℕ → List Row → List Pauli
+tableau_of d n rows = map (run d rows) (units n)
 
 -- a column to look at, past the end the identity
 abbrev pub column : ℕ → List Pauli → ℕ → Pauli
-column n t j = get_or t j (phaseOnly n 0)
+column n t j = get_or t j (phase_only n 0)
 
 -- the columns to the powers, multiplied onto p from the left to the right
 abbrev pub multiplied : ℕ → ℕ → Pauli → List Pauli → List ℕ → Pauli
@@ -26,7 +26,7 @@ multiplied d n p (c ∷ cs) (k ∷ ks) = multiplied d n (product d p (power d n 
 
 -- the image of a Pauli: its phase alone, times column 1 to the v1, .., times column 2n to the wn
 abbrev pub image : ℕ → ℕ → List Pauli → Pauli → Pauli
-image d n t p = multiplied d n (phaseOnly n p.phase) t (p.v ++ p.w)
+image d n t p = multiplied d n (phase_only n p.phase) t (p.v ++ p.w)
 
 pub data AllInRange (d n : ℕ) : List Pauli → Type 0 where
   none : AllInRange d n []

@@ -2,16 +2,16 @@
 ghost use Rattle.std.specs.Prelude.{◌≡◌, map, ◌+◌, ◌*◌, ◌/◌, ◌≤◌, length, take};
 ghost use Rattle.std.proofs.lemmas.List.Edits.{sets};
 ghost use Rattle.arith.specs.Bytes.{front};
-ghost use Rattle.arith.specs.Refusals.{Dimension, numberOf};
+ghost use Rattle.arith.specs.Refusals.{Dimension, number_of};
 ghost use Rattle.arith.specs.Answers.{Written};
-ghost use Rattle.pauli.specs.Bytes.{pauliBytes, encode};
-ghost use Rattle.pauli.specs.Range.{pauliRangeOf};
+ghost use Rattle.pauli.specs.Bytes.{pauli_bytes, encode};
+ghost use Rattle.pauli.specs.Range.{pauli_range_of};
 ghost use Rattle.tableau.specs.Tableau.{image, AllInRange};
-ghost use Rattle.tableau.specs.Bytes.{tableauBytes, columnAt, decodeTableau, encodeTableau};
-ghost use Rattle.tableau.specs.Range.{tableauRangeOf};
-ghost use Rattle.tableau.specs.Batch.{imagesRefusal, imagesAnswer};
-ghost use Rattle.tableau.specs.inner.Parts.{imagesLengths, imagesTests, paulisAt};
-ghost use Rattle.tableau.specs.inner.View.{tableView};
+ghost use Rattle.tableau.specs.Bytes.{tableau_bytes, column_at, decode_tableau, encode_tableau};
+ghost use Rattle.tableau.specs.Range.{tableau_range_of};
+ghost use Rattle.tableau.specs.Batch.{images_refusal, images_answer};
+ghost use Rattle.tableau.specs.Inner.Parts.{images_lengths, images_tests, paulis_at};
+ghost use Rattle.tableau.specs.Inner.View.{table_view};
 
 use arith::checks::Check;
 use pauli::Pauli;
@@ -20,7 +20,7 @@ use pauli::Pauli;
 
 // 1 and 2, then 3 of the tableau and of the batch, 4 of all images.
 fn images_check(d: u16, n: u16, first: usize, second: usize, room: usize) -> Check
-    ensures { numberOf result ≡ imagesLengths d n first second room }
+    ensures { number_of result ≡ images_lengths d n first second room }
 {
     let of_tableau = crate::calls::given(d, n, first);
     let Check::Good = of_tableau else {
@@ -37,7 +37,7 @@ fn images_check(d: u16, n: u16, first: usize, second: usize, room: usize) -> Che
 fn range_at(batch: &[u8], j: usize, d: u16, n: usize) -> Check
     requires dimension { Dimension d × (n ≤ 16) }
     requires room { 2 * (j * (1 + 2 * n) + 1 + 2 * n) ≤ length batch.now }
-    ensures { numberOf result ≡ pauliRangeOf d (columnAt n j batch.now) }
+    ensures { number_of result ≡ pauli_range_of d (column_at n j batch.now) }
 {
     Pauli::read(batch, j * (1 + 2 * n), n).range(d, n)
 }
@@ -46,7 +46,7 @@ fn range_at(batch: &[u8], j: usize, d: u16, n: usize) -> Check
 fn ranges(batch: &[u8], m: usize, d: u16, n: usize) -> Check
     requires dimension { Dimension d × (n ≤ 16) }
     requires room { 2 * (m * (1 + 2 * n)) ≤ length batch.now }
-    ensures { numberOf result ≡ tableauRangeOf d (paulisAt n batch.now m) }
+    ensures { number_of result ≡ tableau_range_of d (paulis_at n batch.now m) }
 {
     for j in 0..m {
         let found = range_at(batch, j, d, n);
@@ -61,7 +61,7 @@ fn ranges(batch: &[u8], m: usize, d: u16, n: usize) -> Check
 fn first_range(batch: &[u8], m: usize, d: u16, n: usize) -> Check
     requires dimension { Dimension d × (n ≤ 16) }
     requires room { 2 * (m * (1 + 2 * n)) ≤ length batch.now }
-    ensures { numberOf result ≡ tableauRangeOf d (take 1 (paulisAt n batch.now m)) }
+    ensures { number_of result ≡ tableau_range_of d (take 1 (paulis_at n batch.now m)) }
 {
     if m == 0 {
         return Check::Good;
@@ -73,7 +73,7 @@ fn first_range(batch: &[u8], m: usize, d: u16, n: usize) -> Check
 fn images_tests(t: &[[u16; 33]; 32], batch: &[u8], m: usize, d: u16, n: usize) -> Check
     requires dimension { Dimension d × (n ≤ 16) }
     requires room { 2 * (m * (1 + 2 * n)) ≤ length batch.now }
-    ensures { numberOf result ≡ imagesTests d n (tableView n t.now) (paulisAt n batch.now m) }
+    ensures { number_of result ≡ images_tests d n (table_view n t.now) (paulis_at n batch.now m) }
 {
     let ranged = crate::checks::range(t, d, n);
     let Check::Good = ranged else {
@@ -95,9 +95,9 @@ fn images_tests(t: &[[u16; 33]; 32], batch: &[u8], m: usize, d: u16, n: usize) -
 // Writes the image of Pauli j in its place.
 fn write_image(t: &[[u16; 33]; 32], batch: &[u8], j: usize, d: u16, n: usize, out: &mut [u8])
     requires dimension { Dimension d × (n ≤ 16) }
-    requires all_in_range { AllInRange d n (tableView n t.now) }
+    requires all_in_range { AllInRange d n (table_view n t.now) }
     requires room { (2 * (j * (1 + 2 * n) + 1 + 2 * n) ≤ length batch.now) × (2 * (j * (1 + 2 * n) + 1 + 2 * n) ≤ length out.old) }
-    ensures { out.new ≡ sets out.old (2 * (j * (1 + 2 * n))) (encode (image d n (tableView n t.now) (columnAt n j batch.now))) }
+    ensures { out.new ≡ sets out.old (2 * (j * (1 + 2 * n))) (encode (image d n (table_view n t.now) (column_at n j batch.now))) }
 {
     let k = j * (1 + 2 * n);
     let p = Pauli::read(batch, k, n);
@@ -107,9 +107,9 @@ fn write_image(t: &[[u16; 33]; 32], batch: &[u8], j: usize, d: u16, n: usize, ou
 // Writes the images of the first m Paulis.
 fn write_images(t: &[[u16; 33]; 32], batch: &[u8], m: usize, d: u16, n: usize, out: &mut [u8])
     requires dimension { Dimension d × (n ≤ 16) }
-    requires all_in_range { AllInRange d n (tableView n t.now) × AllInRange d n (paulisAt n batch.now m) }
+    requires all_in_range { AllInRange d n (table_view n t.now) × AllInRange d n (paulis_at n batch.now m) }
     requires room { (2 * (m * (1 + 2 * n)) ≤ length batch.now) × (length batch.now ≤ length out.old) }
-    ensures { out.new ≡ front (encodeTableau (map (image d n (tableView n t.now)) (paulisAt n batch.now m))) out.old }
+    ensures { out.new ≡ front (encode_tableau (map (image d n (table_view n t.now)) (paulis_at n batch.now m))) out.old }
 {
     for j in 0..m {
         write_image(t, batch, j, d, n, out);
@@ -121,8 +121,8 @@ fn write_images(t: &[[u16; 33]; 32], batch: &[u8], m: usize, d: u16, n: usize, o
 // The images, where the lengths are right: 5, 7 and 8, then the answer.
 fn tested_images(d: u16, n: usize, tableau: &[u8], batch: &[u8], out: &mut [u8]) -> u16
     requires dimension { Dimension d × (n ≤ 16) }
-    requires lengths { (length tableau.now ≡ tableauBytes n) × (length batch.now ≤ length out.old) }
-    ensures { Written (imagesTests d n (decodeTableau n tableau.now) (paulisAt n batch.now (length batch.now / pauliBytes n))) (imagesAnswer d n tableau.now batch.now) out.old out.new result }
+    requires lengths { (length tableau.now ≡ tableau_bytes n) × (length batch.now ≤ length out.old) }
+    ensures { Written (images_tests d n (decode_tableau n tableau.now) (paulis_at n batch.now (length batch.now / pauli_bytes n))) (images_answer d n tableau.now batch.now) out.old out.new result }
 {
     let mut t = [[0u16; 33]; 32];
     crate::table::read_into(&mut t, tableau, n);
@@ -137,7 +137,7 @@ fn tested_images(d: u16, n: usize, tableau: &[u8], batch: &[u8], out: &mut [u8])
 
 // The images of up to 512 Paulis under the tableau.
 pub fn images(d: u16, n: u16, tableau: &[u8], batch: &[u8], out: &mut [u8]) -> u16
-    ensures { Written (imagesRefusal d n tableau.now batch.now (length out.old)) (imagesAnswer d n tableau.now batch.now) out.old out.new result }
+    ensures { Written (images_refusal d n tableau.now batch.now (length out.old)) (images_answer d n tableau.now batch.now) out.old out.new result }
 {
     let found = images_check(d, n, tableau.len(), batch.len(), out.len());
     let Check::Good = found else {

@@ -1,15 +1,15 @@
 // The public calls on tableaus in bytes. Each first makes all its tests, in the order of document 01's table over all its inputs, and only then writes.
 ghost use Rattle.std.specs.Prelude.{◌≡◌, ◌*◌, ◌≤◌, length};
-ghost use Rattle.arith.specs.Refusals.{Dimension, numberOf, orElse};
+ghost use Rattle.arith.specs.Refusals.{Dimension, number_of, or_else};
 ghost use Rattle.arith.specs.Answers.{Written};
-ghost use Rattle.pauli.specs.Bytes.{pauliBytes, decode};
-ghost use Rattle.pauli.specs.inner.View.{view};
-ghost use Rattle.tableau.specs.Bytes.{tableauBytes, decodeTableau};
-ghost use Rattle.tableau.specs.inner.Parts.{sizedOf, imageLengths, composeLengths, inverseLengths, testsOf, imageTests, composeTests};
-ghost use Rattle.tableau.specs.Range.{tableauRangeOf};
-ghost use Rattle.tableau.specs.Soundness.{bothSoundnessOf};
-ghost use Rattle.tableau.specs.inner.View.{tableView};
-ghost use Rattle.tableau.specs.Calls.{tableauRefusal, tableauAnswer, imageRefusal, imageAnswer, composeRefusal, composeAnswer, inverseRefusal, inverseAnswer};
+ghost use Rattle.pauli.specs.Bytes.{pauli_bytes, decode};
+ghost use Rattle.pauli.specs.Inner.View.{view};
+ghost use Rattle.tableau.specs.Bytes.{tableau_bytes, decode_tableau};
+ghost use Rattle.tableau.specs.Inner.Parts.{sized_of, image_lengths, compose_lengths, inverse_lengths, tests_of, image_tests, compose_tests};
+ghost use Rattle.tableau.specs.Range.{tableau_range_of};
+ghost use Rattle.tableau.specs.Soundness.{both_soundness_of};
+ghost use Rattle.tableau.specs.Inner.View.{table_view};
+ghost use Rattle.tableau.specs.Calls.{tableau_refusal, tableau_answer, image_refusal, image_answer, compose_refusal, compose_answer, inverse_refusal, inverse_answer};
 
 use arith::checks::Check;
 use pauli::Pauli;
@@ -17,14 +17,14 @@ use pauli::Pauli;
 // How many bytes a tableau takes.
 pub fn tableau_bytes(n: usize) -> usize
     requires { n ≤ 16 }
-    ensures { result ≡ tableauBytes n }
+    ensures { result ≡ tableau_bytes n }
 {
     2 * (2 * n * (1 + 2 * n))
 }
 
 // 1 and 2, then 3 of a tableau.
 pub fn given(d: u16, n: u16, size: usize) -> Check
-    ensures { numberOf result ≡ sizedOf d n size }
+    ensures { number_of result ≡ sized_of d n size }
 {
     let of_numbers = arith::checks::given(d, n);
     let Check::Good = of_numbers else {
@@ -37,7 +37,7 @@ pub fn given(d: u16, n: u16, size: usize) -> Check
 
 // 1, 2, 3, 4, 6.
 fn tableau_check(d: u16, n: u16, list: &[u8], room: usize) -> Check
-    ensures { numberOf result ≡ tableauRefusal d n list.now room }
+    ensures { number_of result ≡ tableau_refusal d n list.now room }
 {
     let of_list = arith::checks::given_list(d, n, list.len());
     let Check::Good = of_list else {
@@ -53,7 +53,7 @@ fn tableau_check(d: u16, n: u16, list: &[u8], room: usize) -> Check
 
 // The tableau of the list: column j is what the list makes of unit Pauli j.
 pub fn tableau_of(d: u16, n: u16, list: &[u8], out: &mut [u8]) -> u16
-    ensures { Written (tableauRefusal d n list.now (length out.old)) (tableauAnswer d n list.now) out.old out.new result }
+    ensures { Written (tableau_refusal d n list.now (length out.old)) (tableau_answer d n list.now) out.old out.new result }
 {
     let found = tableau_check(d, n, list, out.len());
     let Check::Good = found else {
@@ -67,7 +67,7 @@ pub fn tableau_of(d: u16, n: u16, list: &[u8], out: &mut [u8]) -> u16
 
 // 1 and 2, then 3 of the tableau and of the Pauli, 4.
 fn image_check(d: u16, n: u16, first: usize, second: usize, room: usize) -> Check
-    ensures { numberOf result ≡ imageLengths d n first second room }
+    ensures { number_of result ≡ image_lengths d n first second room }
 {
     let of_tableau = given(d, n, first);
     let Check::Good = of_tableau else {
@@ -79,7 +79,7 @@ fn image_check(d: u16, n: u16, first: usize, second: usize, room: usize) -> Chec
 // 5 of the tableau and of the Pauli, then 7, 8.
 fn image_tests(t: &[[u16; 33]; 32], p: Pauli, d: u16, n: usize) -> Check
     requires { Dimension d × (n ≤ 16) }
-    ensures { numberOf result ≡ imageTests d n (tableView n t.now) (view n p) }
+    ensures { number_of result ≡ image_tests d n (table_view n t.now) (view n p) }
 {
     let ranged = crate::checks::range(t, d, n);
     let Check::Good = ranged else {
@@ -95,8 +95,8 @@ fn image_tests(t: &[[u16; 33]; 32], p: Pauli, d: u16, n: usize) -> Check
 // The image, where the lengths are right: 5, 7 and 8, then the answer.
 fn tested_image(d: u16, n: usize, tableau: &[u8], p: &[u8], out: &mut [u8]) -> u16
     requires dimension { Dimension d × (n ≤ 16) }
-    requires lengths { (length tableau.now ≡ tableauBytes n) × ((length p.now ≡ pauliBytes n) × (pauliBytes n ≤ length out.old)) }
-    ensures { Written (imageTests d n (decodeTableau n tableau.now) (decode n p.now)) (imageAnswer d n tableau.now p.now) out.old out.new result }
+    requires lengths { (length tableau.now ≡ tableau_bytes n) × ((length p.now ≡ pauli_bytes n) × (pauli_bytes n ≤ length out.old)) }
+    ensures { Written (image_tests d n (decode_tableau n tableau.now) (decode n p.now)) (image_answer d n tableau.now p.now) out.old out.new result }
 {
     let mut t = [[0u16; 33]; 32];
     crate::table::read_into(&mut t, tableau, n);
@@ -111,7 +111,7 @@ fn tested_image(d: u16, n: usize, tableau: &[u8], p: &[u8], out: &mut [u8]) -> u
 
 // The image of the Pauli p under the tableau.
 pub fn image(d: u16, n: u16, tableau: &[u8], p: &[u8], out: &mut [u8]) -> u16
-    ensures { Written (imageRefusal d n tableau.now p.now (length out.old)) (imageAnswer d n tableau.now p.now) out.old out.new result }
+    ensures { Written (image_refusal d n tableau.now p.now (length out.old)) (image_answer d n tableau.now p.now) out.old out.new result }
 {
     let found = image_check(d, n, tableau.len(), p.len(), out.len());
     let Check::Good = found else {
@@ -124,7 +124,7 @@ pub fn image(d: u16, n: u16, tableau: &[u8], p: &[u8], out: &mut [u8]) -> u16
 
 // 1 and 2, then 3 of both, 4.
 fn compose_check(d: u16, n: u16, first: usize, second: usize, room: usize) -> Check
-    ensures { numberOf result ≡ composeLengths d n first second room }
+    ensures { number_of result ≡ compose_lengths d n first second room }
 {
     let of_first = given(d, n, first);
     let Check::Good = of_first else {
@@ -137,7 +137,7 @@ fn compose_check(d: u16, n: u16, first: usize, second: usize, room: usize) -> Ch
 // 7 of both, then 8 of both.
 fn both_sound(first: &[[u16; 33]; 32], second: &[[u16; 33]; 32], d: u16, n: usize) -> Check
     requires { Dimension d × (n ≤ 16) }
-    ensures { numberOf result ≡ bothSoundnessOf d n (tableView n first.now) (tableView n second.now) }
+    ensures { number_of result ≡ both_soundness_of d n (table_view n first.now) (table_view n second.now) }
 {
     let paired = crate::checks::pairing(first, d, n);
     let Check::Good = paired else {
@@ -157,7 +157,7 @@ fn both_sound(first: &[[u16; 33]; 32], second: &[[u16; 33]; 32], d: u16, n: usiz
 // 5 of both.
 fn both_ranges(first: &[[u16; 33]; 32], second: &[[u16; 33]; 32], d: u16, n: usize) -> Check
     requires { Dimension d × (n ≤ 16) }
-    ensures { numberOf result ≡ orElse (tableauRangeOf d (tableView n first.now)) (tableauRangeOf d (tableView n second.now)) }
+    ensures { number_of result ≡ or_else (tableau_range_of d (table_view n first.now)) (tableau_range_of d (table_view n second.now)) }
 {
     let ranged = crate::checks::range(first, d, n);
     let Check::Good = ranged else {
@@ -169,7 +169,7 @@ fn both_ranges(first: &[[u16; 33]; 32], second: &[[u16; 33]; 32], d: u16, n: usi
 // 5 of both, then 7 of both, 8 of both.
 fn compose_tests(first: &[[u16; 33]; 32], second: &[[u16; 33]; 32], d: u16, n: usize) -> Check
     requires { Dimension d × (n ≤ 16) }
-    ensures { numberOf result ≡ composeTests d n (tableView n first.now) (tableView n second.now) }
+    ensures { number_of result ≡ compose_tests d n (table_view n first.now) (table_view n second.now) }
 {
     let ranged = both_ranges(first, second, d, n);
     let Check::Good = ranged else {
@@ -181,8 +181,8 @@ fn compose_tests(first: &[[u16; 33]; 32], second: &[[u16; 33]; 32], d: u16, n: u
 // The composition, where the lengths are right: 5, 7 and 8, then the answer.
 fn tested_compose(d: u16, n: usize, first: &[u8], second: &[u8], out: &mut [u8]) -> u16
     requires dimension { Dimension d × (n ≤ 16) }
-    requires lengths { (length first.now ≡ tableauBytes n) × ((length second.now ≡ tableauBytes n) × (tableauBytes n ≤ length out.old)) }
-    ensures { Written (composeTests d n (decodeTableau n first.now) (decodeTableau n second.now)) (composeAnswer d n first.now second.now) out.old out.new result }
+    requires lengths { (length first.now ≡ tableau_bytes n) × ((length second.now ≡ tableau_bytes n) × (tableau_bytes n ≤ length out.old)) }
+    ensures { Written (compose_tests d n (decode_tableau n first.now) (decode_tableau n second.now)) (compose_answer d n first.now second.now) out.old out.new result }
 {
     let mut t = [[0u16; 33]; 32];
     let mut u = [[0u16; 33]; 32];
@@ -198,7 +198,7 @@ fn tested_compose(d: u16, n: usize, first: &[u8], second: &[u8], out: &mut [u8])
 
 // The first tableau, then the second.
 pub fn compose(d: u16, n: u16, first: &[u8], second: &[u8], out: &mut [u8]) -> u16
-    ensures { Written (composeRefusal d n first.now second.now (length out.old)) (composeAnswer d n first.now second.now) out.old out.new result }
+    ensures { Written (compose_refusal d n first.now second.now (length out.old)) (compose_answer d n first.now second.now) out.old out.new result }
 {
     let found = compose_check(d, n, first.len(), second.len(), out.len());
     let Check::Good = found else {
@@ -211,7 +211,7 @@ pub fn compose(d: u16, n: u16, first: &[u8], second: &[u8], out: &mut [u8]) -> u
 
 // 1 and 2, then 3, 4.
 fn inverse_check(d: u16, n: u16, size: usize, room: usize) -> Check
-    ensures { numberOf result ≡ inverseLengths d n size room }
+    ensures { number_of result ≡ inverse_lengths d n size room }
 {
     let of_tableau = given(d, n, size);
     let Check::Good = of_tableau else {
@@ -223,8 +223,8 @@ fn inverse_check(d: u16, n: u16, size: usize, room: usize) -> Check
 // The inverse, where the lengths are right: 5, 7 and 8, then the answer.
 fn tested_inverse(d: u16, n: usize, tableau: &[u8], out: &mut [u8]) -> u16
     requires dimension { Dimension d × (n ≤ 16) }
-    requires lengths { (length tableau.now ≡ tableauBytes n) × (tableauBytes n ≤ length out.old) }
-    ensures { Written (testsOf d n (decodeTableau n tableau.now)) (inverseAnswer d n tableau.now) out.old out.new result }
+    requires lengths { (length tableau.now ≡ tableau_bytes n) × (tableau_bytes n ≤ length out.old) }
+    ensures { Written (tests_of d n (decode_tableau n tableau.now)) (inverse_answer d n tableau.now) out.old out.new result }
 {
     let mut t = [[0u16; 33]; 32];
     crate::table::read_into(&mut t, tableau, n);
@@ -238,7 +238,7 @@ fn tested_inverse(d: u16, n: usize, tableau: &[u8], out: &mut [u8]) -> u16
 
 // The tableau that undoes the given one.
 pub fn inverse(d: u16, n: u16, tableau: &[u8], out: &mut [u8]) -> u16
-    ensures { Written (inverseRefusal d n tableau.now (length out.old)) (inverseAnswer d n tableau.now) out.old out.new result }
+    ensures { Written (inverse_refusal d n tableau.now (length out.old)) (inverse_answer d n tableau.now) out.old out.new result }
 {
     let found = inverse_check(d, n, tableau.len(), out.len());
     let Check::Good = found else {

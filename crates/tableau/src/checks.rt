@@ -1,11 +1,11 @@
 // The tests of a tableau: 5, the range of its numbers, and the two of a sound one, 7, pairing, and 8, parity.
 ghost use Rattle.std.specs.Prelude.{◌≡◌, ◌*◌, ◌≤◌, ◌<◌};
-ghost use Rattle.arith.specs.Refusals.{Dimension, numberOf, pairingOf, parityOf};
+ghost use Rattle.arith.specs.Refusals.{Dimension, number_of, pairing_of, parity_of};
 ghost use Rattle.tableau.specs.Tableau.{paired};
-ghost use Rattle.tableau.specs.inner.Parts.{testsOf};
-ghost use Rattle.tableau.specs.Range.{tableauRangeOf};
-ghost use Rattle.tableau.specs.inner.View.{tableView};
-ghost use Rattle.tableau.specs.Soundness.{pairPasses, laterPass, pairingHolds, parityHolds, soundnessOf};
+ghost use Rattle.tableau.specs.Inner.Parts.{tests_of};
+ghost use Rattle.tableau.specs.Range.{tableau_range_of};
+ghost use Rattle.tableau.specs.Inner.View.{table_view};
+ghost use Rattle.tableau.specs.Soundness.{pair_passes, later_pass, pairing_holds, parity_holds, soundness_of};
 
 use arith::checks::{Check, Refusal};
 
@@ -25,7 +25,7 @@ fn wanted(j: usize, k: usize, d: u16, n: usize) -> u16
 fn pair_passes(t: &[[u16; 33]; 32], j: usize, k: usize, d: u16, n: usize) -> bool
     requires dimension { Dimension d × (n ≤ 16) }
     requires places { (j < 2 * n) × (k < 2 * n) }
-    ensures { result ≡ pairPasses d n (tableView n t.now) j k }
+    ensures { result ≡ pair_passes d n (table_view n t.now) j k }
 {
     let found = crate::table::column(t, j, n).full_commutation(crate::table::column(t, k, n), d, n);
     found.value() == wanted(j, k, d, n)
@@ -35,7 +35,7 @@ fn pair_passes(t: &[[u16; 33]; 32], j: usize, k: usize, d: u16, n: usize) -> boo
 fn later_pairs(t: &[[u16; 33]; 32], j: usize, d: u16, n: usize) -> Check
     requires dimension { Dimension d × (n ≤ 16) }
     requires places { j < 2 * n }
-    ensures { numberOf result ≡ pairingOf (laterPass d n (tableView n t.now) j) }
+    ensures { number_of result ≡ pairing_of (later_pass d n (table_view n t.now) j) }
 {
     let m = 2 * n;
     for k in (j + 1)..m {
@@ -50,7 +50,7 @@ fn later_pairs(t: &[[u16; 33]; 32], j: usize, d: u16, n: usize) -> Check
 // 7 of every two columns.
 pub fn pairing(t: &[[u16; 33]; 32], d: u16, n: usize) -> Check
     requires { Dimension d × (n ≤ 16) }
-    ensures { numberOf result ≡ pairingOf (pairingHolds d n (tableView n t.now)) }
+    ensures { number_of result ≡ pairing_of (pairing_holds d n (table_view n t.now)) }
 {
     let m = 2 * n;
     for j in 0..m {
@@ -65,7 +65,7 @@ pub fn pairing(t: &[[u16; 33]; 32], d: u16, n: usize) -> Check
 // 8 of every column.
 pub fn parity(t: &[[u16; 33]; 32], d: u16, n: usize) -> Check
     requires { Dimension d × (n ≤ 16) }
-    ensures { numberOf result ≡ parityOf (parityHolds d n (tableView n t.now)) }
+    ensures { number_of result ≡ parity_of (parity_holds d n (table_view n t.now)) }
 {
     let m = 2 * n;
     for j in 0..m {
@@ -80,7 +80,7 @@ pub fn parity(t: &[[u16; 33]; 32], d: u16, n: usize) -> Check
 // 7 of every two columns, then 8 of every column.
 pub fn soundness(t: &[[u16; 33]; 32], d: u16, n: usize) -> Check
     requires { Dimension d × (n ≤ 16) }
-    ensures { numberOf result ≡ soundnessOf d n (tableView n t.now) }
+    ensures { number_of result ≡ soundness_of d n (table_view n t.now) }
 {
     let paired = pairing(t, d, n);
     let Check::Good = paired else {
@@ -92,7 +92,7 @@ pub fn soundness(t: &[[u16; 33]; 32], d: u16, n: usize) -> Check
 // 5 of every column.
 pub fn range(t: &[[u16; 33]; 32], d: u16, n: usize) -> Check
     requires { Dimension d × (n ≤ 16) }
-    ensures { numberOf result ≡ tableauRangeOf d (tableView n t.now) }
+    ensures { number_of result ≡ tableau_range_of d (table_view n t.now) }
 {
     let m = 2 * n;
     for j in 0..m {
@@ -107,7 +107,7 @@ pub fn range(t: &[[u16; 33]; 32], d: u16, n: usize) -> Check
 // 5, then 7, then 8.
 pub fn tests(t: &[[u16; 33]; 32], d: u16, n: usize) -> Check
     requires { Dimension d × (n ≤ 16) }
-    ensures { numberOf result ≡ testsOf d n (tableView n t.now) }
+    ensures { number_of result ≡ tests_of d n (table_view n t.now) }
 {
     let ranged = range(t, d, n);
     let Check::Good = ranged else {

@@ -1,10 +1,10 @@
 // What a tableau does to a Pauli: the image, and the Pauli whose image is a given one.
 ghost use Rattle.std.specs.Prelude.{◌≡◌, ◌++◌, ◌*◌, ◌≤◌, ◌<◌, get_or};
 ghost use Rattle.arith.specs.Refusals.{Dimension};
-ghost use Rattle.pauli.specs.inner.View.{view, entries, WordTrue};
+ghost use Rattle.pauli.specs.Inner.View.{view, entries, WordTrue};
 ghost use Rattle.tableau.specs.Tableau.{image, AllInRange};
 ghost use Rattle.tableau.specs.Inverse.{drawn, preimage};
-ghost use Rattle.tableau.specs.inner.View.{tableView};
+ghost use Rattle.tableau.specs.Inner.View.{table_view};
 
 use arith::residue::{Phase, Power, Residue};
 use pauli::Pauli;
@@ -27,8 +27,8 @@ fn exponent(p: Pauli, j: usize, n: usize) -> Power
 // The image of p: its phase alone, times column 1 to the power v1, and so on to column 2n to the power wn.
 pub fn image(t: &[[u16; 33]; 32], p: Pauli, d: u16, n: usize) -> Pauli
     requires dimension { Dimension d × (n ≤ 16) }
-    requires all_in_range { AllInRange d n (tableView n t.now) }
-    ensures value { view n result ≡ image d n (tableView n t.now) (view n p) }
+    requires all_in_range { AllInRange d n (table_view n t.now) }
+    ensures value { view n result ≡ image d n (table_view n t.now) (view n p) }
     ensures word { WordTrue n result }
 {
     let m = 2 * n;
@@ -44,7 +44,7 @@ pub fn image(t: &[[u16; 33]; 32], p: Pauli, d: u16, n: usize) -> Pauli
 // The entries of the Pauli whose image is q up to the phase: v at i is minus the commutation number of q with column n + i, w at i that with column i.
 fn drawn(t: &[[u16; 33]; 32], q: Pauli, d: u16, n: usize) -> Pauli
     requires { Dimension d × (n ≤ 16) }
-    ensures value { view n result ≡ drawn d n (tableView n t.now) (view n q) }
+    ensures value { view n result ≡ drawn d n (table_view n t.now) (view n q) }
     ensures word { WordTrue n result }
 {
     let mut v = [Residue::ZERO; 16];
@@ -69,8 +69,8 @@ fn drawn(t: &[[u16; 33]; 32], q: Pauli, d: u16, n: usize) -> Pauli
 // The Pauli whose image is q: those entries, with the phase that makes it exact.
 pub fn preimage(t: &[[u16; 33]; 32], q: Pauli, d: u16, n: usize) -> Pauli
     requires dimension { Dimension d × (n ≤ 16) }
-    requires all_in_range { AllInRange d n (tableView n t.now) }
-    ensures value { view n result ≡ preimage d n (tableView n t.now) (view n q) }
+    requires all_in_range { AllInRange d n (table_view n t.now) }
+    ensures value { view n result ≡ preimage d n (table_view n t.now) (view n q) }
     ensures word { WordTrue n result }
 {
     let entries = drawn(t, q, d, n);

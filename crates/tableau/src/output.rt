@@ -4,20 +4,20 @@ ghost use Rattle.std.proofs.lemmas.List.Edits.{sets};
 ghost use Rattle.arith.specs.Bytes.{front};
 ghost use Rattle.arith.specs.Refusals.{Dimension};
 ghost use Rattle.pauli.specs.Bytes.{encode};
-ghost use Rattle.pauli.specs.inner.View.{view};
-ghost use Rattle.gates.specs.Written.{listRows, allLegalRows};
+ghost use Rattle.pauli.specs.Inner.View.{view};
+ghost use Rattle.gates.specs.Written.{list_rows, all_legal_rows};
 ghost use Rattle.tableau.specs.Tableau.{WellFormed, Sound, compose};
 ghost use Rattle.tableau.specs.Inverse.{inverse};
-ghost use Rattle.tableau.specs.Bytes.{tableauBytes, encodeTableau};
-ghost use Rattle.tableau.specs.Calls.{tableauAnswer};
-ghost use Rattle.tableau.specs.inner.View.{tableView};
+ghost use Rattle.tableau.specs.Bytes.{tableau_bytes, encode_tableau};
+ghost use Rattle.tableau.specs.Calls.{tableau_answer};
+ghost use Rattle.tableau.specs.Inner.View.{table_view};
 
 use pauli::Pauli;
 
 // Writes column j.
 fn write_column(c: Pauli, out: &mut [u8], j: usize, n: usize)
     requires width { (n ≤ 16) × (j < 2 * n) }
-    requires room { tableauBytes n ≤ length out.old }
+    requires room { tableau_bytes n ≤ length out.old }
     ensures { out.new ≡ sets out.old (2 * (j * (1 + 2 * n))) (encode (view n c)) }
 {
     c.write(out, j * (1 + 2 * n), n);
@@ -26,8 +26,8 @@ fn write_column(c: Pauli, out: &mut [u8], j: usize, n: usize)
 // Writes the tableau in work.
 fn write_table(t: &[[u16; 33]; 32], n: usize, out: &mut [u8])
     requires width { n ≤ 16 }
-    requires room { tableauBytes n ≤ length out.old }
-    ensures { out.new ≡ front (encodeTableau (tableView n t.now)) out.old }
+    requires room { tableau_bytes n ≤ length out.old }
+    ensures { out.new ≡ front (encode_tableau (table_view n t.now)) out.old }
 {
     let m = 2 * n;
     for j in 0..m {
@@ -38,9 +38,9 @@ fn write_table(t: &[[u16; 33]; 32], n: usize, out: &mut [u8])
 // Writes the tableau of the list: column j is what the list makes of unit Pauli j. Each row is put behind all columns.
 pub fn write_tableau(list: &[u8], d: u16, n: usize, out: &mut [u8])
     requires dimension { Dimension d × (n ≤ 16) }
-    requires legal { allLegalRows d n (listRows list.now) ≡ true }
-    requires room { tableauBytes n ≤ length out.old }
-    ensures { out.new ≡ front (tableauAnswer d n list.now) out.old }
+    requires legal { all_legal_rows d n (list_rows list.now) ≡ true }
+    requires room { tableau_bytes n ≤ length out.old }
+    ensures { out.new ≡ front (tableau_answer d n list.now) out.old }
 {
     let rows = list.len() / 8;
     let mut t = crate::table::unit_table(n);
@@ -60,9 +60,9 @@ pub fn write_composed(
     out: &mut [u8],
 )
     requires dimension { Dimension d × (n ≤ 16) }
-    requires well_formed { WellFormed d n (tableView n first.now) × WellFormed d n (tableView n second.now) }
-    requires room { tableauBytes n ≤ length out.old }
-    ensures { out.new ≡ front (encodeTableau (compose d n (tableView n first.now) (tableView n second.now))) out.old }
+    requires well_formed { WellFormed d n (table_view n first.now) × WellFormed d n (table_view n second.now) }
+    requires room { tableau_bytes n ≤ length out.old }
+    ensures { out.new ≡ front (encode_tableau (compose d n (table_view n first.now) (table_view n second.now))) out.old }
 {
     let m = 2 * n;
     for j in 0..m {
@@ -74,9 +74,9 @@ pub fn write_composed(
 // Writes the tableau that undoes t: column j is the Pauli that t carries to unit Pauli j.
 pub fn write_inverse(t: &[[u16; 33]; 32], d: u16, n: usize, out: &mut [u8])
     requires dimension { Dimension d × (n ≤ 16) }
-    requires sound { WellFormed d n (tableView n t.now) × Sound d n (tableView n t.now) }
-    requires room { tableauBytes n ≤ length out.old }
-    ensures { out.new ≡ front (encodeTableau (inverse d n (tableView n t.now))) out.old }
+    requires sound { WellFormed d n (table_view n t.now) × Sound d n (table_view n t.now) }
+    requires room { tableau_bytes n ≤ length out.old }
+    ensures { out.new ≡ front (encode_tableau (inverse d n (table_view n t.now))) out.old }
 {
     let m = 2 * n;
     for j in 0..m {

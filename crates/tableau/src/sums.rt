@@ -6,9 +6,9 @@ ghost use Rattle.std.specs.Prelude.{◌≡◌, ℕ, ◌+◌, ◌*◌, ◌-◌, �
 ghost use Rattle.arith.specs.Bytes.{tab};
 ghost use Rattle.arith.specs.Refusals.{Dimension};
 ghost use Rattle.pauli.specs.Pauli.{InRange, dot, product, power};
-ghost use Rattle.pauli.specs.inner.View.{view, WordTrue};
-ghost use Rattle.tableau.specs.inner.View.{columnView};
-ghost use Rattle.tableau.specs.inner.Sums.{sumsView, Small, Summed, Added};
+ghost use Rattle.pauli.specs.Inner.View.{view, WordTrue};
+ghost use Rattle.tableau.specs.Inner.View.{column_view};
+ghost use Rattle.tableau.specs.Inner.Sums.{sums_view, Small, Summed, Added};
 
 use arith::residue::{Phase, Power, Residue};
 use pauli::Pauli;
@@ -34,7 +34,7 @@ fn sum_multiple(s: u32, x: u16) -> u64
 // w·v of a column. Of small entries it fits in 32 bits, so that the loop takes more of them at a time.
 fn own_twist(c: &[u16; 33], n: usize) -> u32
     requires { (n ≤ 16) × Small n c.now }
-    ensures { (result ≡ dot (columnView n c.now).w (columnView n c.now).v) × (result ≤ 1072676880) }
+    ensures { (result ≡ dot (column_view n c.now).w (column_view n c.now).v) × (result ≤ 1072676880) }
 {
     let mut sum: u32 = 0;
     for i in 0..n {
@@ -46,7 +46,7 @@ fn own_twist(c: &[u16; 33], n: usize) -> u32
 // w·v for the sums w and the v of a column.
 fn cross_twist(s: &[u32; 32], c: &[u16; 33], n: usize) -> u64
     requires { (n ≤ 16) × Small n c.now }
-    ensures { (result ≡ dot (tab (λ i. get_or s.now (16 + i) 0) n) (columnView n c.now).v) × (result ≤ 70300024684560) }
+    ensures { (result ≡ dot (tab (λ i. get_or s.now (16 + i) 0) n) (column_view n c.now).v) × (result ≤ 70300024684560) }
 {
     let mut sum: u64 = 0;
     for i in 0..n {
@@ -81,8 +81,8 @@ fn phase_after(h: Phase, delta: Phase, k: Power, own: u32, cross: u64, d: u16) -
 // Multiplies the product, of phase h, by the column c to the power k, and says the phase. A power 0 changes no sum, and no entry is looked at.
 pub fn multiply(s: &mut [u32; 32], h: Phase, c: &[u16; 33], k: Power, d: u16, n: usize) -> Phase
     requires dimension { Dimension d × (n ≤ 16) }
-    requires in_range { InRange d n (columnView n c.now) × Summed 31 s.old }
-    ensures value { sumsView d n result.0 s.new ≡ product d (sumsView d n h.0 s.old) (power d n (columnView n c.now) k.0) }
+    requires in_range { InRange d n (column_view n c.now) × Summed 31 s.old }
+    ensures value { sums_view d n result.0 s.new ≡ product d (sums_view d n h.0 s.old) (power d n (column_view n c.now) k.0) }
     ensures summed { (m : ℕ) → Summed m s.old → Summed (m + 1) s.new }
 {
     if k.0 == 0 {
@@ -107,7 +107,7 @@ fn entry(x: u32, d: u16) -> Residue
 // The product of phase h, reduced.
 pub fn reduced(s: &[u32; 32], h: Phase, d: u16, n: usize) -> Pauli
     requires { Dimension d × (n ≤ 16) }
-    ensures value { view n result ≡ sumsView d n h.0 s.now }
+    ensures value { view n result ≡ sums_view d n h.0 s.now }
     ensures word { WordTrue n result }
 {
     let mut v = [Residue::ZERO; 16];

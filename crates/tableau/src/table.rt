@@ -1,18 +1,18 @@
 // The tableau in work: 32 columns of 33 numbers, of which 2n columns are in use. A column is its phase, v at 16 places and w at 16 places.
 ghost use Rattle.std.specs.Prelude.{◌≡◌, true, false, map, ℕ, ◌+◌, ◌*◌, ◌≤◌, ◌<◌, length, get_or};
 ghost use Rattle.arith.specs.Refusals.{Dimension};
-ghost use Rattle.pauli.specs.Pauli.{phaseOnly, unit};
-ghost use Rattle.pauli.specs.Bytes.{decodeAt};
-ghost use Rattle.pauli.specs.inner.View.{view, WordTrue};
-ghost use Rattle.pauli.specs.inner.Touched.{viewTouched, touched, replaced};
+ghost use Rattle.pauli.specs.Pauli.{phase_only, unit};
+ghost use Rattle.pauli.specs.Bytes.{decode_at};
+ghost use Rattle.pauli.specs.Inner.View.{view, WordTrue};
+ghost use Rattle.pauli.specs.Inner.Touched.{view_touched, touched, replaced};
 ghost use Rattle.gates.specs.Row.{apply};
-ghost use Rattle.pauli.specs.Support.{wordOf};
-ghost use Rattle.gates.specs.Written.{meant, takesTwo, legalRow};
-ghost use Rattle.gates.specs.inner.View.{viewRow, InverseRight};
+ghost use Rattle.pauli.specs.Support.{word_of};
+ghost use Rattle.gates.specs.Written.{meant, takes_two, legal_row};
+ghost use Rattle.gates.specs.Inner.View.{view_row, InverseRight};
 ghost use Rattle.tableau.specs.Tableau.{column, units};
-ghost use Rattle.tableau.specs.Bytes.{tableauBytes, decodeTableau};
-ghost use Rattle.tableau.specs.inner.View.{columnView, tableView, Shaped};
-ghost use Rattle.tableau.specs.inner.Changing.{changes, changing};
+ghost use Rattle.tableau.specs.Bytes.{tableau_bytes, decode_tableau};
+ghost use Rattle.tableau.specs.Inner.View.{column_view, table_view, Shaped};
+ghost use Rattle.tableau.specs.Inner.Changing.{changes, changing};
 
 use arith::residue::{Phase, Residue};
 use gates::{Ready, Row};
@@ -24,7 +24,7 @@ use pauli::touched::Touched;
 // v of qudit i in column c.
 pub fn v_at(t: &[[u16; 33]; 32], c: usize, i: usize) -> Residue
     requires { (c < 32) × (i < 16) }
-    ensures { (n : ℕ) → c < 2 * n → i < n → result.0 ≡ get_or (column n (tableView n t.now) c).v i 0 }
+    ensures { (n : ℕ) → c < 2 * n → i < n → result.0 ≡ get_or (column n (table_view n t.now) c).v i 0 }
 {
     Residue::lent(t[c][1 + i])
 }
@@ -32,7 +32,7 @@ pub fn v_at(t: &[[u16; 33]; 32], c: usize, i: usize) -> Residue
 // w of qudit i in column c.
 pub fn w_at(t: &[[u16; 33]; 32], c: usize, i: usize) -> Residue
     requires { (c < 32) × (i < 16) }
-    ensures { (n : ℕ) → c < 2 * n → i < n → result.0 ≡ get_or (column n (tableView n t.now) c).w i 0 }
+    ensures { (n : ℕ) → c < 2 * n → i < n → result.0 ≡ get_or (column n (table_view n t.now) c).w i 0 }
 {
     Residue::lent(t[c][17 + i])
 }
@@ -40,7 +40,7 @@ pub fn w_at(t: &[[u16; 33]; 32], c: usize, i: usize) -> Residue
 // The phase of column c.
 pub fn phase_at(t: &[[u16; 33]; 32], c: usize) -> Phase
     requires { c < 32 }
-    ensures { (n : ℕ) → c < 2 * n → result.0 ≡ (column n (tableView n t.now) c).phase }
+    ensures { (n : ℕ) → c < 2 * n → result.0 ≡ (column n (table_view n t.now) c).phase }
 {
     Phase::lent(t[c][0])
 }
@@ -50,7 +50,7 @@ pub fn phase_at(t: &[[u16; 33]; 32], c: usize) -> Phase
 // Column j as a Pauli. A column in work has no support word: it is made here.
 pub fn column(t: &[[u16; 33]; 32], j: usize, n: usize) -> Pauli
     requires { (n ≤ 16) × (j < 2 * n) }
-    ensures value { view n result ≡ column n (tableView n t.now) j }
+    ensures value { view n result ≡ column n (table_view n t.now) j }
     ensures word { WordTrue n result }
 {
     let v = pauli::arrays::entries_from(&t[j], 1);
@@ -70,7 +70,7 @@ pub fn column(t: &[[u16; 33]; 32], j: usize, n: usize) -> Pauli
 fn read_column(c: &mut [u16; 33], b: &[u8], k: usize, n: usize)
     requires width { (n ≤ 16) × (2 * (k + 1 + 2 * n) ≤ length b.now) }
     requires size { length c.old ≡ 33 }
-    ensures { (columnView n c.new ≡ decodeAt n k b.now) × (length c.new ≡ 33) }
+    ensures { (column_view n c.new ≡ decode_at n k b.now) × (length c.new ≡ 33) }
 {
     c[0] = arith::numbers::get(b, k);
     for i in 0..n {
@@ -82,8 +82,8 @@ fn read_column(c: &mut [u16; 33], b: &[u8], k: usize, n: usize)
 // Reads the tableau that the bytes hold.
 pub fn read_into(t: &mut [[u16; 33]; 32], b: &[u8], n: usize)
     requires width { (n ≤ 16) × Shaped t.old }
-    requires size { length b.now ≡ tableauBytes n }
-    ensures { (tableView n t.new ≡ decodeTableau n b.now) × Shaped t.new }
+    requires size { length b.now ≡ tableau_bytes n }
+    ensures { (table_view n t.new ≡ decode_tableau n b.now) × Shaped t.new }
 {
     let m = 2 * n;
     for j in 0..m {
@@ -96,8 +96,8 @@ pub fn read_into(t: &mut [[u16; 33]; 32], b: &[u8], n: usize)
 // A column of zeros becomes unit Pauli j.
 fn set_unit(c: &mut [u16; 33], j: usize, n: usize)
     requires width { (n ≤ 16) × (j < 2 * n) }
-    requires zero { (columnView n c.old ≡ phaseOnly n 0) × (length c.old ≡ 33) }
-    ensures { (columnView n c.new ≡ unit n j) × (length c.new ≡ 33) }
+    requires zero { (column_view n c.old ≡ phase_only n 0) × (length c.old ≡ 33) }
+    ensures { (column_view n c.new ≡ unit n j) × (length c.new ≡ 33) }
 {
     if j < n {
         c[1 + j] = 1;
@@ -109,7 +109,7 @@ fn set_unit(c: &mut [u16; 33], j: usize, n: usize)
 // The tableau of the empty list: the unit Paulis.
 pub fn unit_table(n: usize) -> [[u16; 33]; 32]
     requires { n ≤ 16 }
-    ensures { (tableView n result ≡ units n) × Shaped result }
+    ensures { (table_view n result ≡ units n) × Shaped result }
 {
     let m = 2 * n;
     let mut t = [[0u16; 33]; 32];
@@ -124,7 +124,7 @@ pub fn unit_table(n: usize) -> [[u16; 33]; 32]
 // The numbers of a column that a row on i and j touches.
 fn touched(c: &[u16; 33], i: usize, j: usize) -> Touched
     requires { (i < 16) × (j < 16) }
-    ensures { (n : ℕ) → i < n → j < n → touched i j (columnView n c.now) ≡ viewTouched result }
+    ensures { (n : ℕ) → i < n → j < n → touched i j (column_view n c.now) ≡ view_touched result }
 {
     Touched {
         phase: Phase::lent(c[0]),
@@ -139,7 +139,7 @@ fn touched(c: &[u16; 33], i: usize, j: usize) -> Touched
 fn replace(c: &mut [u16; 33], i: usize, j: usize, t: Touched)
     requires places { (i < 16) × (j < 16) }
     requires size { length c.old ≡ 33 }
-    ensures { ((n : ℕ) → i < n → j < n → n ≤ 16 → columnView n c.new ≡ replaced i j (viewTouched t) (columnView n c.old)) × (length c.new ≡ 33) }
+    ensures { ((n : ℕ) → i < n → j < n → n ≤ 16 → column_view n c.new ≡ replaced i j (view_touched t) (column_view n c.old)) × (length c.new ≡ 33) }
 {
     let phase = t.phase;
     let x = t.vi;
@@ -156,7 +156,7 @@ fn replace(c: &mut [u16; 33], i: usize, j: usize, t: Touched)
 // 0 for a column that no row on i and j changes, 1 for any other.
 fn changes(c: &[u16; 33], i: usize, j: usize, d: u16) -> u32
     requires { Dimension d × ((i < 16) × (j < 16)) }
-    ensures { (n : ℕ) → i < n → j < n → result ≡ changes d i j (columnView n c.now) }
+    ensures { (n : ℕ) → i < n → j < n → result ≡ changes d i j (column_view n c.now) }
 {
     if touched(c, i, j).still(d) {
         return 0;
@@ -168,7 +168,7 @@ fn changes(c: &[u16; 33], i: usize, j: usize, d: u16) -> u32
 fn changing(t: &[[u16; 33]; 32], i: usize, j: usize, d: u16, n: usize) -> u32
     requires dimension { Dimension d × (n ≤ 16) }
     requires places { (i < n) × (j < n) }
-    ensures { result ≡ wordOf (changing d i j (tableView n t.now)) }
+    ensures { result ≡ word_of (changing d i j (table_view n t.now)) }
 {
     let m = 2 * n;
     let mut word: u32 = 0;
@@ -181,9 +181,9 @@ fn changing(t: &[[u16; 33]; 32], i: usize, j: usize, d: u16, n: usize) -> u32
 // A legal row on one qudit put behind a column.
 fn put_one(c: &mut [u16; 33], row: Ready, d: u16, n: usize)
     requires dimension { Dimension d × (n ≤ 16) }
-    requires legal { (legalRow d n (viewRow row.row) ≡ true) × InverseRight d row }
-    requires kind { (takesTwo row.row.kind ≡ false) × (length c.old ≡ 33) }
-    ensures { (columnView n c.new ≡ apply d (meant (viewRow row.row)) (columnView n c.old)) × (length c.new ≡ 33) }
+    requires legal { (legal_row d n (view_row row.row) ≡ true) × InverseRight d row }
+    requires kind { (takes_two row.row.kind ≡ false) × (length c.old ≡ 33) }
+    ensures { (column_view n c.new ≡ apply d (meant (view_row row.row)) (column_view n c.old)) × (length c.new ≡ 33) }
 {
     let written = row.row;
     let i = written.first as usize - 1;
@@ -193,9 +193,9 @@ fn put_one(c: &mut [u16; 33], row: Ready, d: u16, n: usize)
 // A legal row on two put behind a column.
 fn put_two(c: &mut [u16; 33], row: Ready, d: u16, n: usize)
     requires dimension { Dimension d × (n ≤ 16) }
-    requires legal { legalRow d n (viewRow row.row) ≡ true }
-    requires kind { (takesTwo row.row.kind ≡ true) × (length c.old ≡ 33) }
-    ensures { (columnView n c.new ≡ apply d (meant (viewRow row.row)) (columnView n c.old)) × (length c.new ≡ 33) }
+    requires legal { legal_row d n (view_row row.row) ≡ true }
+    requires kind { (takes_two row.row.kind ≡ true) × (length c.old ≡ 33) }
+    ensures { (column_view n c.new ≡ apply d (meant (view_row row.row)) (column_view n c.old)) × (length c.new ≡ 33) }
 {
     let written = row.row;
     let i = written.first as usize - 1;
@@ -206,9 +206,9 @@ fn put_two(c: &mut [u16; 33], row: Ready, d: u16, n: usize)
 // A legal row on one qudit put behind every column in use that it changes: `rest` has the bits of those from `at` on.
 fn put_ones(t: &mut [[u16; 33]; 32], row: Ready, d: u16, n: usize)
     requires dimension { Dimension d × (n ≤ 16) }
-    requires legal { (legalRow d n (viewRow row.row) ≡ true) × InverseRight d row }
-    requires kind { (takesTwo row.row.kind ≡ false) × Shaped t.old }
-    ensures { (tableView n t.new ≡ map (apply d (meant (viewRow row.row))) (tableView n t.old)) × Shaped t.new }
+    requires legal { (legal_row d n (view_row row.row) ≡ true) × InverseRight d row }
+    requires kind { (takes_two row.row.kind ≡ false) × Shaped t.old }
+    ensures { (table_view n t.new ≡ map (apply d (meant (view_row row.row))) (table_view n t.old)) × Shaped t.new }
 {
     let written = row.row;
     let i = written.first as usize - 1;
@@ -226,9 +226,9 @@ fn put_ones(t: &mut [[u16; 33]; 32], row: Ready, d: u16, n: usize)
 // The same for a row on two.
 fn put_twos(t: &mut [[u16; 33]; 32], row: Ready, d: u16, n: usize)
     requires dimension { Dimension d × (n ≤ 16) }
-    requires legal { legalRow d n (viewRow row.row) ≡ true }
-    requires kind { (takesTwo row.row.kind ≡ true) × Shaped t.old }
-    ensures { (tableView n t.new ≡ map (apply d (meant (viewRow row.row))) (tableView n t.old)) × Shaped t.new }
+    requires legal { legal_row d n (view_row row.row) ≡ true }
+    requires kind { (takes_two row.row.kind ≡ true) × Shaped t.old }
+    ensures { (table_view n t.new ≡ map (apply d (meant (view_row row.row))) (table_view n t.old)) × Shaped t.new }
 {
     let written = row.row;
     let i = written.first as usize - 1;
@@ -247,8 +247,8 @@ fn put_twos(t: &mut [[u16; 33]; 32], row: Ready, d: u16, n: usize)
 // A legal row put behind every column in use, in place. The kinds on one qudit and on two have a loop each, in which fewer numbers are read and written.
 pub fn put_columns(t: &mut [[u16; 33]; 32], row: Row, d: u16, n: usize)
     requires dimension { Dimension d × (n ≤ 16) }
-    requires legal { (legalRow d n (viewRow row) ≡ true) × Shaped t.old }
-    ensures { (tableView n t.new ≡ map (apply d (meant (viewRow row))) (tableView n t.old)) × Shaped t.new }
+    requires legal { (legal_row d n (view_row row) ≡ true) × Shaped t.old }
+    ensures { (table_view n t.new ≡ map (apply d (meant (view_row row))) (table_view n t.old)) × Shaped t.new }
 {
     let ready = row.ready(d);
     if gates::takes_two(row.kind) {

@@ -7,125 +7,125 @@ use native.Mathlib.Omega.{arith}
 use lib.Dec.{ltb, eqb}
 use lib.ListN.{length, length-append}
 use borrow.Author.Tests.{ltb-true, ltb-false, lt-ltb, le-ltb, ne_eqb}
-use Rattle.text.specs.Format.{decimal, digits, letterOf, Fits, KindFits}
-use Rattle.text.specs.inner.Scan.{kindOf, letterField, firstDigit, nextDigit, valueOf}
+use Rattle.text.specs.Format.{decimal, digits, letter_of, Fits, KindFits}
+use Rattle.text.specs.Inner.Scan.{kind_of, letter_field, first_digit, next_digit, value_of}
 use Rattle.text.specs.declared.reading.Field.{Field}
 use Rattle.text.specs.declared.reading.Field.TheVariants.{Number, Whole}
 use Rattle.text.specs.declared.reading.Value.TheVariants.{Is}
 
-pub decimal-low : (k x : ℕ) → x < 10 → decimal k x ≡ (48 + x) ∷ []
+pub decimal_low : (k x : ℕ) → x < 10 → decimal k x ≡ (48 + x) ∷ []
 unfolding decimal
-decimal-low zero x h = refl
-decimal-low (suc k) x h = rw (lt-ltb x 10 h)
+decimal_low zero x h = refl
+decimal_low (suc k) x h = rw (lt-ltb x 10 h)
 
-pub decimal-high : (k x : ℕ) → 10 ≤ x → decimal (suc k) x ≡ decimal k (x / 10) ++ ((48 + x % 10) ∷ [])
+pub decimal_high : (k x : ℕ) → 10 ≤ x → decimal (suc k) x ≡ decimal k (x / 10) ++ ((48 + x % 10) ∷ [])
 unfolding decimal
-decimal-high k x h = rw (le-ltb x 10 h)
+decimal_high k x h = rw (le-ltb x 10 h)
 
 -- steps beyond x change nothing
-decimal-steps : (k j x : ℕ) → x ≤ k → x ≤ j → decimal k x ≡ decimal j x
-decimal-steps zero zero x h g = refl
-decimal-steps zero (suc j) x h g = decimal-low zero x (omega arith) ∙ sym (decimal-low (suc j) x (omega arith))
-decimal-steps (suc k) zero x h g = decimal-low (suc k) x (omega arith) ∙ sym (decimal-low zero x (omega arith))
-decimal-steps (suc k) (suc j) x h g = go (ltb x 10) refl (λ q. decimal-steps k j (x / 10) (omega arith) (omega arith))
+decimal_steps : (k j x : ℕ) → x ≤ k → x ≤ j → decimal k x ≡ decimal j x
+decimal_steps zero zero x h g = refl
+decimal_steps zero (suc j) x h g = decimal_low zero x (omega arith) ∙ sym (decimal_low (suc j) x (omega arith))
+decimal_steps (suc k) zero x h g = decimal_low (suc k) x (omega arith) ∙ sym (decimal_low zero x (omega arith))
+decimal_steps (suc k) (suc j) x h g = go (ltb x 10) refl (λ q. decimal_steps k j (x / 10) (omega arith) (omega arith))
   where
     go : (t : Bool) → ltb x 10 ≡ t → (10 ≤ x → decimal k (x / 10) ≡ decimal j (x / 10)) → decimal (suc k) x ≡ decimal (suc j) x
-    go true e r = decimal-low (suc k) x (ltb-true x 10 e) ∙ sym (decimal-low (suc j) x (ltb-true x 10 e))
+    go true e r = decimal_low (suc k) x (ltb-true x 10 e) ∙ sym (decimal_low (suc j) x (ltb-true x 10 e))
     go false e r =
-        decimal-high k x (ltb-false x 10 e) ∙ ap (λ (l : List ℕ). l ++ ((48 + x % 10) ∷ [])) (r (ltb-false x 10 e)) ∙ sym (decimal-high j x (ltb-false x 10 e))
+        decimal_high k x (ltb-false x 10 e) ∙ ap (λ (l : List ℕ). l ++ ((48 + x % 10) ∷ [])) (r (ltb-false x 10 e)) ∙ sym (decimal_high j x (ltb-false x 10 e))
 
-pub digits-low : (x : ℕ) → x < 10 → digits x ≡ (48 + x) ∷ []
+pub digits_low : (x : ℕ) → x < 10 → digits x ≡ (48 + x) ∷ []
 unfolding digits
-digits-low x h = decimal-low x x h
+digits_low x h = decimal_low x x h
 
 -- a digit more
-pub digits-more : (v x : ℕ) → 0 < v → x < 10 → digits (10 * v + x) ≡ digits v ++ ((48 + x) ∷ [])
+pub digits_more : (v x : ℕ) → 0 < v → x < 10 → digits (10 * v + x) ≡ digits v ++ ((48 + x) ∷ [])
 unfolding digits
-digits-more v x h g = go (10 * v + x) refl
+digits_more v x h g = go (10 * v + x) refl
   where
     go : (y : ℕ) → y ≡ 10 * v + x → decimal y y ≡ decimal v v ++ ((48 + x) ∷ [])
     go zero e = absurd (omega arith)
     go (suc k) e =
         let q : suc k / 10 ≡ v = omega arith in
         let r : suc k % 10 ≡ x = omega arith in
-        decimal-high k (suc k) (omega arith) ∙ rw (q, r) (ap (λ (l : List ℕ). l ++ ((48 + x) ∷ [])) (decimal-steps k v v (omega arith) (omega arith)))
+        decimal_high k (suc k) (omega arith) ∙ rw (q, r) (ap (λ (l : List ℕ). l ++ ((48 + x) ∷ [])) (decimal_steps k v v (omega arith) (omega arith)))
 
 -- the last digit
-pub digits-last : (x : ℕ) → 10 ≤ x → digits x ≡ digits (x / 10) ++ ((48 + x % 10) ∷ [])
-digits-last x h =
+pub digits_last : (x : ℕ) → 10 ≤ x → digits x ≡ digits (x / 10) ++ ((48 + x % 10) ∷ [])
+digits_last x h =
     let e : 10 * (x / 10) + x % 10 ≡ x = omega arith in
-    ap digits (sym e) ∙ digits-more (x / 10) (x % 10) (omega arith) (omega arith)
+    ap digits (sym e) ∙ digits_more (x / 10) (x % 10) (omega arith) (omega arith)
 
-pub digits-length : (x : ℕ) → 10 ≤ x → length (digits x) ≡ length (digits (x / 10)) + 1
-digits-length x h = ap length (digits-last x h) ∙ length-append (digits (x / 10)) ((48 + x % 10) ∷ [])
+pub digits_length : (x : ℕ) → 10 ≤ x → length (digits x) ≡ length (digits (x / 10)) + 1
+digits_length x h = ap length (digits_last x h) ∙ length-append (digits (x / 10)) ((48 + x % 10) ∷ [])
 
-pub one-digit : (x : ℕ) → x < 10 → length (digits x) ≡ 1
-one-digit x h = ap length (digits-low x h)
+pub one_digit : (x : ℕ) → x < 10 → length (digits x) ≡ 1
+one_digit x h = ap length (digits_low x h)
 
 -- a number of at most `bound` has at most k digits
 most : (k bound x : ℕ) → x ≤ bound → ((y : ℕ) → y ≤ bound / 10 → length (digits y) ≤ k) → length (digits x) ≤ suc k
 most k bound x h r = go (ltb x 10) refl
   where
     go : (t : Bool) → ltb x 10 ≡ t → length (digits x) ≤ suc k
-    go true e = let q = ltb-true x 10 e in omega (arith, one-digit x q)
-    go false e = let q = ltb-false x 10 e in omega (arith, digits-length x q, r (x / 10) (omega arith))
+    go true e = let q = ltb-true x 10 e in omega (arith, one_digit x q)
+    go false e = let q = ltb-false x 10 e in omega (arith, digits_length x q, r (x / 10) (omega arith))
 
-pub five-digits : (x : ℕ) → Fits x → length (digits x) ≤ 5
-five-digits x h =
-    most 4 99999 x (omega arith) (λ a ha. most 3 9999 a ha (λ b hb. most 2 999 b hb (λ c hc. most 1 99 c hc (λ d hd. let e = one-digit d (omega arith) in omega arith))))
+pub five_digits : (x : ℕ) → Fits x → length (digits x) ≤ 5
+five_digits x h =
+    most 4 99999 x (omega arith) (λ a ha. most 3 9999 a ha (λ b hb. most 2 999 b hb (λ c hc. most 1 99 c hc (λ d hd. let e = one_digit d (omega arith) in omega arith))))
 
 -- ---- what a number's field is
-pub numberField : ℕ → Field
-numberField x = cond (eqb x 0) (Whole 0) (Number x)
+pub number_field : ℕ → Field
+number_field x = cond (eqb x 0) (Whole 0) (Number x)
 
-pub number-some : (x : ℕ) → 0 < x → numberField x ≡ Number x
-unfolding numberField
-number-some x h = rw (ne_eqb x 0 (λ e. omega arith))
+pub number_some : (x : ℕ) → 0 < x → number_field x ≡ Number x
+unfolding number_field
+number_some x h = rw (ne_eqb x 0 (λ e. omega arith))
 
-pub value-number : (x : ℕ) → valueOf (numberField x) ≡ Is x
-unfolding numberField
-value-number zero = refl
-value-number (suc x) = rw (ne_eqb (suc x) 0 (λ e. omega arith))
+pub value_number : (x : ℕ) → value_of (number_field x) ≡ Is x
+unfolding number_field
+value_number zero = refl
+value_number (suc x) = rw (ne_eqb (suc x) 0 (λ e. omega arith))
 
-pub first-digit : (x : ℕ) → x < 10 → firstDigit (48 + x) ≡ numberField x
-unfolding firstDigit numberField
-first-digit zero h = refl
-first-digit (suc x) h =
+pub first_digit_lem : (x : ℕ) → x < 10 → first_digit (48 + x) ≡ number_field x
+unfolding first_digit number_field
+first_digit_lem zero h = refl
+first_digit_lem (suc x) h =
     let e : 48 + suc x - 48 ≡ suc x = omega arith in
     rw (le-ltb (48 + suc x) 48 (omega arith), le-ltb 57 (48 + suc x) (omega arith), ne_eqb (48 + suc x) 48 (λ q. omega arith), e, ne_eqb (suc x) 0 (λ q. omega arith))
 
-pub next-digit : (v x : ℕ) → x < 10 → 10 * v + x ≤ 65535 → nextDigit v (48 + x) ≡ Number (10 * v + x)
-unfolding nextDigit
-next-digit v x h g =
+pub next_digit_lem : (v x : ℕ) → x < 10 → 10 * v + x ≤ 65535 → next_digit v (48 + x) ≡ Number (10 * v + x)
+unfolding next_digit
+next_digit_lem v x h g =
     let e : 48 + x - 48 ≡ x = omega arith in
     rw (le-ltb (48 + x) 48 (omega arith), le-ltb 57 (48 + x) (omega arith), e, le-ltb 65535 (10 * v + x) g)
 
 -- ---- letters
-pub by-kind : (P : ℕ → Type 0) → P 1 → P 2 → P 3 → P 4 → P 5 → P 6 → P 7 → P 8 → (k : ℕ) → KindFits k → P k
-by-kind P a b c d e f g h zero l = absurd (omega arith)
-by-kind P a b c d e f g h (suc zero) l = a
-by-kind P a b c d e f g h (suc (suc zero)) l = b
-by-kind P a b c d e f g h (suc (suc (suc zero))) l = c
-by-kind P a b c d e f g h (suc (suc (suc (suc zero)))) l = d
-by-kind P a b c d e f g h (suc (suc (suc (suc (suc zero))))) l = e
-by-kind P a b c d e f g h (suc (suc (suc (suc (suc (suc zero)))))) l = f
-by-kind P a b c d e f g h (suc (suc (suc (suc (suc (suc (suc zero))))))) l = g
-by-kind P a b c d e f g h (suc (suc (suc (suc (suc (suc (suc (suc zero)))))))) l = h
-by-kind P a b c d e f g h (suc (suc (suc (suc (suc (suc (suc (suc (suc k))))))))) l = absurd (omega arith)
+pub by_kind : (P : ℕ → Type 0) → P 1 → P 2 → P 3 → P 4 → P 5 → P 6 → P 7 → P 8 → (k : ℕ) → KindFits k → P k
+by_kind P a b c d e f g h zero l = absurd (omega arith)
+by_kind P a b c d e f g h (suc zero) l = a
+by_kind P a b c d e f g h (suc (suc zero)) l = b
+by_kind P a b c d e f g h (suc (suc (suc zero))) l = c
+by_kind P a b c d e f g h (suc (suc (suc (suc zero)))) l = d
+by_kind P a b c d e f g h (suc (suc (suc (suc (suc zero))))) l = e
+by_kind P a b c d e f g h (suc (suc (suc (suc (suc (suc zero)))))) l = f
+by_kind P a b c d e f g h (suc (suc (suc (suc (suc (suc (suc zero))))))) l = g
+by_kind P a b c d e f g h (suc (suc (suc (suc (suc (suc (suc (suc zero)))))))) l = h
+by_kind P a b c d e f g h (suc (suc (suc (suc (suc (suc (suc (suc (suc k))))))))) l = absurd (omega arith)
 
 pub record Letter (k : ℕ) : Type 0 where
-  pub back : letterField (letterOf k) ≡ Whole k
-  pub no-comma : letterOf k ≡ 44 → ⊥
-  pub no-end : letterOf k ≡ 10 → ⊥
+  pub back : letter_field (letter_of k) ≡ Whole k
+  pub no_comma : letter_of k ≡ 44 → ⊥
+  pub no_end : letter_of k ≡ 10 → ⊥
 
 pub letter : (k : ℕ) → KindFits k → Letter k
-unfolding letterField letterOf kindOf
-letter = by-kind Letter
-    (record { back = refl; no-comma = λ e. omega arith; no-end = λ e. omega arith })
-    (record { back = refl; no-comma = λ e. omega arith; no-end = λ e. omega arith })
-    (record { back = refl; no-comma = λ e. omega arith; no-end = λ e. omega arith })
-    (record { back = refl; no-comma = λ e. omega arith; no-end = λ e. omega arith })
-    (record { back = refl; no-comma = λ e. omega arith; no-end = λ e. omega arith })
-    (record { back = refl; no-comma = λ e. omega arith; no-end = λ e. omega arith })
-    (record { back = refl; no-comma = λ e. omega arith; no-end = λ e. omega arith })
-    (record { back = refl; no-comma = λ e. omega arith; no-end = λ e. omega arith })
+unfolding letter_field letter_of kind_of
+letter = by_kind Letter
+    (record { back = refl; no_comma = λ e. omega arith; no_end = λ e. omega arith })
+    (record { back = refl; no_comma = λ e. omega arith; no_end = λ e. omega arith })
+    (record { back = refl; no_comma = λ e. omega arith; no_end = λ e. omega arith })
+    (record { back = refl; no_comma = λ e. omega arith; no_end = λ e. omega arith })
+    (record { back = refl; no_comma = λ e. omega arith; no_end = λ e. omega arith })
+    (record { back = refl; no_comma = λ e. omega arith; no_end = λ e. omega arith })
+    (record { back = refl; no_comma = λ e. omega arith; no_end = λ e. omega arith })
+    (record { back = refl; no_comma = λ e. omega arith; no_end = λ e. omega arith })

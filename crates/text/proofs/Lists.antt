@@ -9,121 +9,121 @@ use lib.ListN.{length, take, drop, length-map, length-append}
 use lib.Seq.{take_at, length-take-le}
 use lib.Dec.{leb, eqb}
 use borrow.Author.Tests.{eq-eqb}
-use Rattle.arith.specs.Bytes.{bytesOf, front}
+use Rattle.arith.specs.Bytes.{bytes_of, front}
 use Rattle.arith.specs.Answers.{Written}
 use Rattle.arith.specs.declared.checks.Refusal.TheVariants.{Length}
-use Rattle.arith.specs.Refusals.{orElse, givenOf, wholeOf, listSizeOf, roomOf, rowOf, unlessHolds}
-use Rattle.arith.proofs.Refusals.{orElse-past, given-good}
-use Rattle.arith.proofs.Passes.{room-passes}
+use Rattle.arith.specs.Refusals.{or_else, given_of, whole_of, list_size_of, room_of, row_of, unless_holds}
+use Rattle.arith.proofs.Refusals.{or_else_past, given_good}
+use Rattle.arith.proofs.Passes.{room_passes}
 use Rattle.pauli.specs.Pauli.{Pauli}
-use Rattle.pauli.specs.Bytes.{numbersOf}
-use Rattle.pauli.proofs.Ranges.{entries-length}
-use Rattle.gates.specs.Written.{WrittenRow, meant, allLegalRows, listRows, rowNumbers, listNumbers}
-use Rattle.gates.proofs.Written.{all-legal-meant}
-use Rattle.tableau.specs.Tableau.{tableauOf, AllInRange, none, more, WellFormed}
-use Rattle.tableau.specs.Bytes.{tableauBytes, tableauNumbers, encodeTableau}
-use Rattle.tableau.specs.Calls.{tableauRefusal, tableauAnswer}
-use Rattle.tableau.proofs.Accepted.{tableau-accepted}
-use Rattle.tableau.proofs.Bytes.{tableau-small}
-use Rattle.tableau.proofs.Run.{tableau-formed}
-use Rattle.text.specs.Format.{tableauFile, listFile, concatenated, printFile, printRefusal}
-use Rattle.text.specs.inner.Prints.{Prints, tableauFileOf}
-use Rattle.text.specs.Convert.{fullColumns, rowCountOf, listRefusal, tableauPrint}
-use Rattle.text.specs.inner.FromBytes.{outcomeOf, RowsConvert}
+use Rattle.pauli.specs.Bytes.{numbers_of}
+use Rattle.pauli.proofs.Ranges.{entries_length}
+use Rattle.gates.specs.Written.{WrittenRow, meant, all_legal_rows, list_rows, row_numbers, list_numbers}
+use Rattle.gates.proofs.Written.{all_legal_meant}
+use Rattle.tableau.specs.Tableau.{tableau_of, AllInRange, none, more, WellFormed}
+use Rattle.tableau.specs.Bytes.{tableau_bytes, tableau_numbers, encode_tableau}
+use Rattle.tableau.specs.Calls.{tableau_refusal, tableau_answer}
+use Rattle.tableau.proofs.Accepted.{tableau_accepted}
+use Rattle.tableau.proofs.Bytes.{tableau_small}
+use Rattle.tableau.proofs.Run.{tableau_formed}
+use Rattle.text.specs.Format.{tableau_file, list_file, concatenated, print_file, print_refusal}
+use Rattle.text.specs.Inner.Prints.{Prints, tableau_file_of}
+use Rattle.text.specs.Convert.{full_columns, row_count_of, list_refusal, tableau_print}
+use Rattle.text.specs.Inner.FromBytes.{outcome_of, RowsConvert}
 use Rattle.text.specs.declared.Outcome.{Outcome}
 use Rattle.text.specs.declared.Outcome.TheVariants.{Done, Refused}
-use Rattle.text.proofs.Back.{tableau-back}
+use Rattle.text.proofs.Back.{tableau_back}
 
 -- ---- the first r bytes of the output are what was printed
 pub printed : {text old new : List ℕ} {r : ℕ} → Prints text old r new → take r new ≡ text
 printed {text} {old} {new} {r} p = ap (take r) p.fronts ∙ take_at text (drop (length text) old) r (sym p.counts)
 
-pub printed-room : {text old new : List ℕ} {r : ℕ} → Prints text old r new → r ≤ length new
-printed-room {text} {old} p = omega (arith, p.counts, ap length p.fronts, length-append text (drop (length text) old))
+pub printed_room : {text old new : List ℕ} {r : ℕ} → Prints text old r new → r ≤ length new
+printed_room {text} {old} p = omega (arith, p.counts, ap length p.fronts, length-append text (drop (length text) old))
 
 -- the front of a buffer is as long as is said
-pub front-length : (k : ℕ) (l : List ℕ) → k ≤ length l → k ≡ length (take k l)
-front-length k l h = sym (length-take-le k l h)
+pub front_length : (k : ℕ) (l : List ℕ) → k ≤ length l → k ≡ length (take k l)
+front_length k l h = sym (length-take-le k l h)
 
-pub front-room : (k : ℕ) (l : List ℕ) → k ≤ length l → k ≤ length (take k l)
-front-room k l h = omega (arith, length-take-le k l h)
+pub front_room : (k : ℕ) (l : List ℕ) → k ≤ length l → k ≤ length (take k l)
+front_room k l h = omega (arith, length-take-le k l h)
 
 -- ---- what a call's number x says: it is done where x is 0, and refused where it isn't
-pub done-none : (x : ℕ) {r : Outcome} → r ≡ outcomeOf x → r ≡ Done → x ≡ 0
-done-none zero e g = refl
-done-none (suc x) e g = let z : ◌≡◌ {A = ℕ} 0 1 = cc in absurd (omega arith)
+pub done_none : (x : ℕ) {r : Outcome} → r ≡ outcome_of x → r ≡ Done → x ≡ 0
+done_none zero e g = refl
+done_none (suc x) e g = let z : ◌≡◌ {A = ℕ} 0 1 = cc in absurd (omega arith)
 
-pub refused-some : (x : ℕ) {k : ℕ} {r : Outcome} → r ≡ outcomeOf x → r ≡ Refused k → x ≢ 0
-refused-some zero e g o = let z : ◌≡◌ {A = ℕ} 0 1 = cc in omega arith
-refused-some (suc x) e g o = omega arith
+pub refused_some : (x : ℕ) {k : ℕ} {r : Outcome} → r ≡ outcome_of x → r ≡ Refused k → x ≢ 0
+refused_some zero e g o = let z : ◌≡◌ {A = ℕ} 0 1 = cc in omega arith
+refused_some (suc x) e g o = omega arith
 
 -- ---- the refusals of a list are those of its rows
-list-size : (k : ℕ) → listSizeOf (8 * k) ≡ rowCountOf k
-unfolding wholeOf listSizeOf rowCountOf
-list-size k =
+list_size : (k : ℕ) → list_size_of (8 * k) ≡ row_count_of k
+unfolding whole_of list_size_of row_count_of
+list_size k =
     let e : eqb (8 * k % 8) 0 ≡ true = eq-eqb (8 * k % 8) 0 (omega arith) in
     let f : 8 * k / 8 ≡ k = omega arith in
-    ap₂ (λ (a b : Bool). unlessHolds Length (a && b)) e (ap (λ (m : ℕ). leb m 4096) f)
+    ap₂ (λ (a b : Bool). unless_holds Length (a && b)) e (ap (λ (m : ℕ). leb m 4096) f)
 
-pub rows-concatenated : (rows : List WrittenRow) → concatenated rowNumbers rows ≡ listNumbers rows
-unfolding concatenated listNumbers
-rows-concatenated [] = refl
-rows-concatenated (w ∷ ws) = ap (λ (l : List ℕ). rowNumbers w ++ l) (rows-concatenated ws)
+pub rows_concatenated : (rows : List WrittenRow) → concatenated row_numbers rows ≡ list_numbers rows
+unfolding concatenated list_numbers
+rows_concatenated [] = refl
+rows_concatenated (w ∷ ws) = ap (λ (l : List ℕ). row_numbers w ++ l) (rows_concatenated ws)
 
-pub rows-size : (list : List ℕ) (rows : List WrittenRow) → length list ≡ 8 * length rows → listSizeOf (length list) ≡ rowCountOf (length rows)
-rows-size list rows l = ap listSizeOf l ∙ list-size (length rows)
+pub rows_size : (list : List ℕ) (rows : List WrittenRow) → length list ≡ 8 * length rows → list_size_of (length list) ≡ row_count_of (length rows)
+rows_size list rows l = ap list_size_of l ∙ list_size (length rows)
 
-refusal-same : (d n : ℕ) (list : List ℕ) (rows : List WrittenRow) (room : ℕ) → length list ≡ 8 * length rows → listRows list ≡ rows → 2112 ≤ room
-    → tableauRefusal d n list room ≡ listRefusal d n rows
-refusal-same d n list rows room l e h = orElse-past (givenOf d n) (λ g. ap₂ orElse (rows-size list rows l) (ap₂ orElse (roomy (given-good g).width.n-high) rowed))
+refusal_same : (d n : ℕ) (list : List ℕ) (rows : List WrittenRow) (room : ℕ) → length list ≡ 8 * length rows → list_rows list ≡ rows → 2112 ≤ room
+    → tableau_refusal d n list room ≡ list_refusal d n rows
+refusal_same d n list rows room l e h = or_else_past (given_of d n) (λ g. ap₂ or_else (rows_size list rows l) (ap₂ or_else (roomy (given_good g).width.n_high) rowed))
   where
-    roomy : n ≤ 16 → roomOf (tableauBytes n) room ≡ 0
-    roomy l = room-passes {want = tableauBytes n} (omega (arith, tableau-small n l))
+    roomy : n ≤ 16 → room_of (tableau_bytes n) room ≡ 0
+    roomy l = room_passes {want = tableau_bytes n} (omega (arith, tableau_small n l))
 
-    rowed : rowOf (allLegalRows d n (listRows list)) ≡ rowOf (allLegalRows d n rows)
-    rowed = ap (λ (l : List WrittenRow). rowOf (allLegalRows d n l)) e
+    rowed : row_of (all_legal_rows d n (list_rows list)) ≡ row_of (all_legal_rows d n rows)
+    rowed = ap (λ (l : List WrittenRow). row_of (all_legal_rows d n l)) e
 
 -- ---- the tableau's bytes are its columns' numbers
-columns-concatenated : (t : List Pauli) → concatenated (λ (c : List ℕ). c) (map numbersOf t) ≡ tableauNumbers t
+columns_concatenated : (t : List Pauli) → concatenated (λ (c : List ℕ). c) (map numbers_of t) ≡ tableau_numbers t
 unfolding concatenated
-columns-concatenated [] = refl
-columns-concatenated (c ∷ cs) = ap (λ (l : List ℕ). numbersOf c ++ l) (columns-concatenated cs)
+columns_concatenated [] = refl
+columns_concatenated (c ∷ cs) = ap (λ (l : List ℕ). numbers_of c ++ l) (columns_concatenated cs)
 
-columns-full : {d n : ℕ} {t : List Pauli} → AllInRange d n t → fullColumns n (map numbersOf t) ≡ true
-unfolding fullColumns
-columns-full none = refl
-columns-full {n = n} (more {c = c} r rs) = ap₂ (λ (a b : Bool). a && b) (eq-eqb (length (numbersOf c)) (1 + 2 * n) (omega (arith, entries-length r))) (columns-full rs)
+columns_full : {d n : ℕ} {t : List Pauli} → AllInRange d n t → full_columns n (map numbers_of t) ≡ true
+unfolding full_columns
+columns_full none = refl
+columns_full {n = n} (more {c = c} r rs) = ap₂ (λ (a b : Bool). a && b) (eq-eqb (length (numbers_of c)) (1 + 2 * n) (omega (arith, entries_length r))) (columns_full rs)
 
-columns-printed : {d n : ℕ} {t : List Pauli} (rest : List ℕ) → WellFormed d n t → tableauFileOf d n (encodeTableau t ++ rest) ≡ tableauFile d n (map numbersOf t)
-unfolding encodeTableau
-columns-printed {d} {n} {t} rest f =
-    ap (λ (xs : List ℕ). tableauFileOf d n (bytesOf xs ++ rest)) (sym (columns-concatenated t))
-    ∙ tableau-back d n (map numbersOf t) rest (columns-full f.ranges) (length-map t numbersOf ∙ f.columns)
+columns_printed : {d n : ℕ} {t : List Pauli} (rest : List ℕ) → WellFormed d n t → tableau_file_of d n (encode_tableau t ++ rest) ≡ tableau_file d n (map numbers_of t)
+unfolding encode_tableau
+columns_printed {d} {n} {t} rest f =
+    ap (λ (xs : List ℕ). tableau_file_of d n (bytes_of xs ++ rest)) (sym (columns_concatenated t))
+    ∙ tableau_back d n (map numbers_of t) rest (columns_full f.ranges) (length-map t numbers_of ∙ f.columns)
 
 -- ---- what is printed, where the call's answer is k
-module _ (d n : ℕ) (list old new : List ℕ) (k : ℕ) (w : Written (tableauRefusal d n list (length old)) (tableauAnswer d n list) old new k) where
+module _ (d n : ℕ) (list old new : List ℕ) (k : ℕ) (w : Written (tableau_refusal d n list (length old)) (tableau_answer d n list) old new k) where
   -- a refusal
-  pub list-refused : {output : List ℕ} → 2112 ≤ length old → k ≢ 0 → output ≡ printRefusal k → RowsConvert listFile d n list output
-  list-refused h z p = λ rows l e.
-      let same : k ≡ listRefusal d n rows = w.number ∙ refusal-same d n list rows (length old) l e h in
-      record { refused = λ r. p ∙ ap printRefusal same; accepted = λ r. absurd (z (same ∙ r)) }
+  pub list_refused : {output : List ℕ} → 2112 ≤ length old → k ≢ 0 → output ≡ print_refusal k → RowsConvert list_file d n list output
+  list_refused h z p = λ rows l e.
+      let same : k ≡ list_refusal d n rows = w.number ∙ refusal_same d n list rows (length old) l e h in
+      record { refused = λ r. p ∙ ap print_refusal same; accepted = λ r. absurd (z (same ∙ r)) }
 
-  none-refused : k ≡ 0 → tableauRefusal d n list (length old) ≡ 0
-  none-refused z = sym w.number ∙ z
+  none_refused : k ≡ 0 → tableau_refusal d n list (length old) ≡ 0
+  none_refused z = sym w.number ∙ z
 
   -- the tableau's bytes are there
-  pub list-width : k ≡ 0 → n ≤ 16
-  list-width z = (tableau-accepted list (length old) (none-refused z)).given.width.n-high
+  pub list_width : k ≡ 0 → n ≤ 16
+  list_width z = (tableau_accepted list (length old) (none_refused z)).given.width.n_high
 
-  written : k ≡ 0 → new ≡ front (tableauAnswer d n list) old
-  written z = rw (none-refused z) at w.out
+  written : k ≡ 0 → new ≡ front (tableau_answer d n list) old
+  written z = rw (none_refused z) at w.out
 
   -- the tableau
-  pub list-printed : {output : List ℕ} → 2112 ≤ length old → k ≡ 0 → output ≡ printFile (tableauFileOf d n new) → RowsConvert listFile d n list output
-  list-printed {output} h z p = λ rows l e. record { refused = λ r. absurd (r (sym (refusal-same d n list rows (length old) l e h) ∙ none-refused z)); accepted = λ r. prints rows e }
+  pub list_printed : {output : List ℕ} → 2112 ≤ length old → k ≡ 0 → output ≡ print_file (tableau_file_of d n new) → RowsConvert list_file d n list output
+  list_printed {output} h z p = λ rows l e. record { refused = λ r. absurd (r (sym (refusal_same d n list rows (length old) l e h) ∙ none_refused z)); accepted = λ r. prints rows e }
     where
-      prints : (rows : List WrittenRow) → listRows list ≡ rows → output ≡ tableauPrint d n rows
+      prints : (rows : List WrittenRow) → list_rows list ≡ rows → output ≡ tableau_print d n rows
       prints rows same =
-          let a = tableau-accepted list (length old) (none-refused z) in
-          let formed = tableau-formed (omega (arith, a.given.dimension)) (all-legal-meant d n (listRows list) a.legal) in
-          p ∙ ap printFile (ap (tableauFileOf d n) (written z) ∙ columns-printed (drop (length (tableauAnswer d n list)) old) formed ∙ ap (λ (l : List WrittenRow). tableauFile d n (map numbersOf (tableauOf d n (map meant l)))) same)
+          let a = tableau_accepted list (length old) (none_refused z) in
+          let formed = tableau_formed (omega (arith, a.given.dimension)) (all_legal_meant d n (list_rows list) a.legal) in
+          p ∙ ap print_file (ap (tableau_file_of d n) (written z) ∙ columns_printed (drop (length (tableau_answer d n list)) old) formed ∙ ap (λ (l : List WrittenRow). tableau_file d n (map numbers_of (tableau_of d n (map meant l)))) same)

@@ -5,63 +5,63 @@ use mathlib.Core.Bool.{Bool, true}
 use mathlib.Core.List.{List, map}
 use Prim.Native.Nat.{ℕ, ◌*◌}
 use lib.ListN.{length, length-map}
-use Rattle.arith.specs.Refusals.{numberOf, orElse, givenOf, listSizeOf, rowOf, Dimension}
+use Rattle.arith.specs.Refusals.{number_of, or_else, given_of, list_size_of, row_of, Dimension}
 use Rattle.arith.specs.declared.checks.Refusal.{Refusal}
 use Rattle.arith.specs.declared.checks.Check.{Check}
 use Rattle.arith.specs.declared.checks.Check.TheVariants.{Good, Refused}
-use Rattle.arith.proofs.Refusals.{good, not-zero, orElse-none, given-good, row-good}
-use Rattle.arith.proofs.Passes.{both-pass}
-use Rattle.gates.specs.Written.{WrittenRow, allRows, allLegalRows, listRows}
-use Rattle.text.specs.Partner.{legalPartner, translated}
-use Rattle.text.specs.Format.{listFile, partnerFile, printRefusal}
-use Rattle.text.specs.Convert.{rowCountOf, listRefusal, partnerRefusal, PrintsFor}
-use Rattle.text.specs.inner.FromBytes.{partnerListRefusal, RowsConvert}
-use Rattle.text.proofs.Lists.{rows-size}
-use Rattle.text.proofs.PartnerRows.{all-translated, partner-legal}
+use Rattle.arith.proofs.Refusals.{good, not_zero, or_else_none, given_good, row_good}
+use Rattle.arith.proofs.Passes.{both_pass}
+use Rattle.gates.specs.Written.{WrittenRow, all_rows, all_legal_rows, list_rows}
+use Rattle.text.specs.Partner.{legal_partner, translated}
+use Rattle.text.specs.Format.{list_file, partner_file, print_refusal}
+use Rattle.text.specs.Convert.{row_count_of, list_refusal, partner_refusal, PrintsFor}
+use Rattle.text.specs.Inner.FromBytes.{partner_list_refusal, RowsConvert}
+use Rattle.text.proofs.Lists.{rows_size}
+use Rattle.text.proofs.PartnerRows.{all_translated, partner_legal}
 
 -- ---- a partner's list that isn't refused is translated to a list that isn't
-rows-pass : (legal : Bool) → legal ≡ true → rowOf legal ≡ 0
-unfolding rowOf
-rows-pass legal e = rw e
+rows_pass : (legal : Bool) → legal ≡ true → row_of legal ≡ 0
+unfolding row_of
+rows_pass legal e = rw e
 
-pub translated-accepted : (d n : ℕ) (rows : List WrittenRow) → partnerRefusal d n rows ≡ 0 → listRefusal d n (map (translated d) rows) ≡ 0
-translated-accepted d n rows e =
-    let a = orElse-none (givenOf d n) _ e in
-    let b = orElse-none (rowCountOf (length rows)) _ a.1 in
-    let large = (given-good a.0).dimension.d-low in
-    both-pass a.0 (both-pass (ap rowCountOf (length-map rows (translated d)) ∙ b.0)
-    (rows-pass _ (all-translated d n rows large (partner-legal d n rows (row-good _ b.1)))))
+pub translated_accepted : (d n : ℕ) (rows : List WrittenRow) → partner_refusal d n rows ≡ 0 → list_refusal d n (map (translated d) rows) ≡ 0
+translated_accepted d n rows e =
+    let a = or_else_none (given_of d n) _ e in
+    let b = or_else_none (row_count_of (length rows)) _ a.1 in
+    let large = (given_good a.0).dimension.d_low in
+    both_pass a.0 (both_pass (ap row_count_of (length-map rows (translated d)) ∙ b.0)
+    (rows_pass _ (all_translated d n rows large (partner_legal d n rows (row_good _ b.1)))))
 
 -- and a G file that isn't refused prints what the L file of the translated rows prints
-pub partner-as-list : (d n : ℕ) (rows : List WrittenRow) (output : List ℕ) → partnerRefusal d n rows ≡ 0
-    → PrintsFor (partnerFile d n rows) output ↔ PrintsFor (listFile d n (map (translated d) rows)) output
-partner-as-list d n rows output z =
-    let a = translated-accepted d n rows z in (
+pub partner_as_list : (d n : ℕ) (rows : List WrittenRow) (output : List ℕ) → partner_refusal d n rows ≡ 0
+    → PrintsFor (partner_file d n rows) output ↔ PrintsFor (list_file d n (map (translated d) rows)) output
+partner_as_list d n rows output z =
+    let a = translated_accepted d n rows z in (
       λ p. record { refused = λ r. absurd (r a); accepted = λ r. p.accepted z },
       λ p. record { refused = λ r. absurd (r z); accepted = λ r. p.accepted a },
     )
 
 -- ---- what is printed for the bytes of a partner's list
 module _ (d n : ℕ) (list : List ℕ) where
-  refusal-same : (rows : List WrittenRow) → length list ≡ 8 * length rows → listRows list ≡ rows → partnerListRefusal d n list ≡ partnerRefusal d n rows
-  refusal-same rows l e = ap₂ (λ (x : ℕ) (ws : List WrittenRow). orElse (givenOf d n) (orElse x (rowOf (allRows (legalPartner d n) ws)))) (rows-size list rows l) e
+  refusal_same : (rows : List WrittenRow) → length list ≡ 8 * length rows → list_rows list ≡ rows → partner_list_refusal d n list ≡ partner_refusal d n rows
+  refusal_same rows l e = ap₂ (λ (x : ℕ) (ws : List WrittenRow). or_else (given_of d n) (or_else x (row_of (all_rows (legal_partner d n) ws)))) (rows_size list rows l) e
 
   -- a refusal, where the check found r
-  pub partner-refused : {r : Check} {k : Refusal} {output : List ℕ} → numberOf r ≡ partnerListRefusal d n list → r ≡ Refused k → output ≡ printRefusal (numberOf r) → RowsConvert partnerFile d n list output
-  partner-refused e f p = λ rows l q.
-      let same = e ∙ refusal-same rows l q in
-      record { refused = λ z. p ∙ ap printRefusal same; accepted = λ z. absurd (not-zero (same ∙ z) f) }
+  pub partner_refused : {r : Check} {k : Refusal} {output : List ℕ} → number_of r ≡ partner_list_refusal d n list → r ≡ Refused k → output ≡ print_refusal (number_of r) → RowsConvert partner_file d n list output
+  partner_refused e f p = λ rows l q.
+      let same = e ∙ refusal_same rows l q in
+      record { refused = λ z. p ∙ ap print_refusal same; accepted = λ z. absurd (not_zero (same ∙ z) f) }
 
   -- past the check the rows are legal
-  pub partner-passed : {r : Check} → numberOf r ≡ partnerListRefusal d n list → r ≡ Good → Dimension d × (allLegalRows d n (listRows list) ≡ true)
-  partner-passed e f =
-      let a = orElse-none (givenOf d n) _ (good _ e f) in
-      let b = orElse-none (listSizeOf (length list)) _ a.1 in
-      ((given-good a.0).dimension, partner-legal d n (listRows list) (row-good _ b.1))
+  pub partner_passed : {r : Check} → number_of r ≡ partner_list_refusal d n list → r ≡ Good → Dimension d × (all_legal_rows d n (list_rows list) ≡ true)
+  partner_passed e f =
+      let a = or_else_none (given_of d n) _ (good _ e f) in
+      let b = or_else_none (list_size_of (length list)) _ a.1 in
+      ((given_good a.0).dimension, partner_legal d n (list_rows list) (row_good _ b.1))
 
   -- and once they are translated they are printed as an L file's are
-  pub partner-printed : {r : Check} (new output : List ℕ) → numberOf r ≡ partnerListRefusal d n list → r ≡ Good → length new ≡ length list
-      → listRows new ≡ map (translated d) (listRows list) → RowsConvert listFile d n new output → RowsConvert partnerFile d n list output
-  partner-printed new output e f k t p = λ rows l q.
-      (partner-as-list d n rows output (sym (refusal-same rows l q) ∙ good _ e f)).1
+  pub partner_printed : {r : Check} (new output : List ℕ) → number_of r ≡ partner_list_refusal d n list → r ≡ Good → length new ≡ length list
+      → list_rows new ≡ map (translated d) (list_rows list) → RowsConvert list_file d n new output → RowsConvert partner_file d n list output
+  partner_printed new output e f k t p = λ rows l q.
+      (partner_as_list d n rows output (sym (refusal_same rows l q) ∙ good _ e f)).1
       (p (map (translated d) rows) (k ∙ l ∙ ap (λ (m : ℕ). 8 * m) (sym (length-map rows (translated d)))) (t ∙ ap (map (translated d)) q))

@@ -8,97 +8,97 @@ use native.Mathlib.Omega.{arith}
 use lib.ListN.{length, take, length-map, length-append}
 use lib.Seq.{take_at, drop_at}
 use borrow.Author.Rules.{rules}
-use Rattle.arith.specs.Bytes.{tab, numberAt, numbersAt, bytesOf}
+use Rattle.arith.specs.Bytes.{tab, number_at, numbers_at, bytes_of}
 use Rattle.arith.specs.declared.checks.Refusal.{Refusal}
 use Rattle.arith.specs.declared.checks.Refusal.TheVariants.{Length}
-use Rattle.arith.specs.Refusals.{numberOf, orElse, givenOf, sizeOf, roomOf, unlessHolds}
+use Rattle.arith.specs.Refusals.{number_of, or_else, given_of, size_of, room_of, unless_holds}
 use Rattle.arith.specs.declared.checks.Check.{Check}
 use Rattle.arith.specs.declared.checks.Check.TheVariants.{Good, Refused}
 use Rattle.arith.specs.declared.checks.Answer.{Answer}
-use Rattle.arith.proofs.Bytes.{tab-cons, tab-append, tab-ext, tab-length, tab-map, bytes-length}
-use Rattle.arith.proofs.Refusals.{Given, good, stop, not-zero, orElse-none, orElse-past, orElse-assoc, given-good, size-good, held, both-held}
-use Rattle.arith.proofs.Passes.{size-passes, room-passes}
+use Rattle.arith.proofs.Bytes.{tab_cons, tab_append, tab_ext, tab_length, tab_map, bytes_length}
+use Rattle.arith.proofs.Refusals.{Given, good, stop, not_zero, or_else_none, or_else_past, or_else_assoc, given_good, size_good, held, both_held}
+use Rattle.arith.proofs.Passes.{size_passes, room_passes}
 use Rattle.pauli.specs.Pauli.{Pauli}
-use Rattle.pauli.specs.Bytes.{decodeAt}
+use Rattle.pauli.specs.Bytes.{decode_at}
 use Rattle.gates.specs.Row.{Row, F, S, A, M, X, Z, C, W, Legal}
-use Rattle.gates.specs.Written.{WrittenRow, written, meant, legalRow, allRows, allLegalRows, rowAt, listRows}
-use Rattle.gates.proofs.Written.{written-meant, legal-meant}
-use Rattle.tableau.specs.Bytes.{tableauBytes, columnAt, decodeTableau}
-use Rattle.tableau.specs.Range.{tableauRangeOf}
-use Rattle.tableau.specs.Soundness.{soundnessOf}
-use Rattle.synthesis.specs.Demand3.{Realisable, malformedOf, synthesisRefusal, handed, Synthesised}
-use Rattle.synthesis.proofs.Handed.{accepted-given, square-small}
-use Rattle.text.specs.Format.{digits, line, listFile, header, rowLine, concatenated, Every, RowFits, printFile, printRefusal}
-use Rattle.text.specs.inner.Prints.{columnsAt, listFileOf}
-use Rattle.text.specs.Convert.{fullColumns, pauliOf, countsOf, columnsMalformed, columnsRefusal, PrintsList}
-use Rattle.text.specs.inner.FromBytes.{TableauConverts, ColumnsConvert}
-use Rattle.text.proofs.Digits.{five-digits}
-use Rattle.text.proofs.Back.{full-length, columns-back}
-use Rattle.text.proofs.Unique.{refusal-unique, refusal-no-list}
+use Rattle.gates.specs.Written.{WrittenRow, written, meant, legal_row, all_rows, all_legal_rows, row_at, list_rows}
+use Rattle.gates.proofs.Written.{written_meant, legal_meant}
+use Rattle.tableau.specs.Bytes.{tableau_bytes, column_at, decode_tableau}
+use Rattle.tableau.specs.Range.{tableau_range_of}
+use Rattle.tableau.specs.Soundness.{soundness_of}
+use Rattle.synthesis.specs.Demand3.{Realisable, malformed_of, synthesis_refusal, handed, Synthesised}
+use Rattle.synthesis.proofs.Handed.{accepted_given, square_small}
+use Rattle.text.specs.Format.{digits, line, list_file, header, row_line, concatenated, Every, RowFits, print_file, print_refusal}
+use Rattle.text.specs.Inner.Prints.{columns_at, list_file_of}
+use Rattle.text.specs.Convert.{full_columns, pauli_of, counts_of, columns_malformed, columns_refusal, PrintsList}
+use Rattle.text.specs.Inner.FromBytes.{TableauConverts, ColumnsConvert}
+use Rattle.text.proofs.Digits.{five_digits}
+use Rattle.text.proofs.Back.{full_length, columns_back}
+use Rattle.text.proofs.Unique.{refusal_unique, refusal_no_list}
 
 -- ---- the tableau in the bytes is that of the columns
 module _ (n k : ℕ) (b : List ℕ) where
-  later : numbersAt b k (1 + 2 * n) ≡ numberAt b k ∷ (numbersAt b (k + 1) n ++ numbersAt b (k + 1 + n) n)
+  later : numbers_at b k (1 + 2 * n) ≡ number_at b k ∷ (numbers_at b (k + 1) n ++ numbers_at b (k + 1 + n) n)
   later =
       let e : 1 + 2 * n ≡ suc (n + n) = omega arith in
       let z : k + 0 ≡ k = omega arith in
-      ap (tab (λ i. numberAt b (k + i))) e
-      ∙ tab-cons (λ i. numberAt b (k + i)) (n + n)
-      ∙ ap₂ (λ (x : ℕ) (l : List ℕ). x ∷ l) (ap (numberAt b) z)
-      (tab-append (λ i. numberAt b (k + suc i)) n n
+      ap (tab (λ i. number_at b (k + i))) e
+      ∙ tab_cons (λ i. number_at b (k + i)) (n + n)
+      ∙ ap₂ (λ (x : ℕ) (l : List ℕ). x ∷ l) (ap (number_at b) z)
+      (tab_append (λ i. number_at b (k + suc i)) n n
       ∙ ap₂ (λ (x y : List ℕ). x ++ y)
-      (tab-ext (λ i. numberAt b (k + suc i)) (λ i. numberAt b (k + 1 + i)) n (λ i h. let q : k + suc i ≡ k + 1 + i = omega arith in ap (numberAt b) q))
-      (tab-ext (λ i. numberAt b (k + suc (n + i))) (λ i. numberAt b (k + 1 + n + i)) n (λ i h. let q : k + suc (n + i) ≡ k + 1 + n + i = omega arith in ap (numberAt b) q)))
+      (tab_ext (λ i. number_at b (k + suc i)) (λ i. number_at b (k + 1 + i)) n (λ i h. let q : k + suc i ≡ k + 1 + i = omega arith in ap (number_at b) q))
+      (tab_ext (λ i. number_at b (k + suc (n + i))) (λ i. number_at b (k + 1 + n + i)) n (λ i h. let q : k + suc (n + i) ≡ k + 1 + n + i = omega arith in ap (number_at b) q)))
 
-  pauli-decoded : pauliOf n (numbersAt b k (1 + 2 * n)) ≡ decodeAt n k b
-  pauli-decoded =
-      let v = numbersAt b (k + 1) n in
-      let w = numbersAt b (k + 1 + n) n in
-      let m : length v ≡ n = tab-length (λ i. numberAt b (k + 1 + i)) n in
-      ap (pauliOf n) later ∙ ap₂ (λ (x y : List ℕ). record { phase = numberAt b k; v = x; w = y }) (take_at v w n m) (drop_at v w n m)
+  pauli_decoded : pauli_of n (numbers_at b k (1 + 2 * n)) ≡ decode_at n k b
+  pauli_decoded =
+      let v = numbers_at b (k + 1) n in
+      let w = numbers_at b (k + 1 + n) n in
+      let m : length v ≡ n = tab_length (λ i. number_at b (k + 1 + i)) n in
+      ap (pauli_of n) later ∙ ap₂ (λ (x y : List ℕ). record { phase = number_at b k; v = x; w = y }) (take_at v w n m) (drop_at v w n m)
 
-tableau-decoded : (n : ℕ) (b : List ℕ) → map (pauliOf n) (columnsAt b (1 + 2 * n) (2 * n)) ≡ decodeTableau n b
-unfolding decodeTableau
-tableau-decoded n b =
-    tab-map (pauliOf n) (λ j. numbersAt b (j * (1 + 2 * n)) (1 + 2 * n)) (2 * n)
-    ∙ tab-ext (λ j. pauliOf n (numbersAt b (j * (1 + 2 * n)) (1 + 2 * n))) (λ j. columnAt n j b) (2 * n) (λ j h. pauli-decoded n (j * (1 + 2 * n)) b)
+tableau_decoded : (n : ℕ) (b : List ℕ) → map (pauli_of n) (columns_at b (1 + 2 * n) (2 * n)) ≡ decode_tableau n b
+unfolding decode_tableau
+tableau_decoded n b =
+    tab_map (pauli_of n) (λ j. numbers_at b (j * (1 + 2 * n)) (1 + 2 * n)) (2 * n)
+    ∙ tab_ext (λ j. pauli_of n (numbers_at b (j * (1 + 2 * n)) (1 + 2 * n))) (λ j. column_at n j b) (2 * n) (λ j h. pauli_decoded n (j * (1 + 2 * n)) b)
 
-columns-decoded : (n : ℕ) (columns : List (List ℕ)) → fullColumns n columns ≡ true → length columns ≡ 2 * n → decodeTableau n (bytesOf (concatenated (λ (c : List ℕ). c) columns)) ≡ map (pauliOf n) columns
-columns-decoded n columns f e =
-    let b : List ℕ = bytesOf (concatenated (λ (c : List ℕ). c) columns) in
-    sym (tableau-decoded n b)
-    ∙ ap (map (pauliOf n)) (ap (columnsAt b (1 + 2 * n)) (sym e) ∙ ap (λ (l : List ℕ). columnsAt l (1 + 2 * n) (length columns)) (sym (append-nil b)) ∙ columns-back n columns [] f)
+columns_decoded : (n : ℕ) (columns : List (List ℕ)) → full_columns n columns ≡ true → length columns ≡ 2 * n → decode_tableau n (bytes_of (concatenated (λ (c : List ℕ). c) columns)) ≡ map (pauli_of n) columns
+columns_decoded n columns f e =
+    let b : List ℕ = bytes_of (concatenated (λ (c : List ℕ). c) columns) in
+    sym (tableau_decoded n b)
+    ∙ ap (map (pauli_of n)) (ap (columns_at b (1 + 2 * n)) (sym e) ∙ ap (λ (l : List ℕ). columns_at l (1 + 2 * n) (length columns)) (sym (append-nil b)) ∙ columns_back n columns [] f)
 
 -- ---- the counts
-counts-good : (n count : ℕ) (full : Bool) → countsOf n count full ≡ 0 → (full ≡ true) × (count ≡ 2 * n)
-unfolding countsOf
-counts-good n count full e = let z = orElse-none (unlessHolds Length full) (sizeOf (2 * n) count) e in (held Length full z.0, size-good z.1)
+counts_good : (n count : ℕ) (full : Bool) → counts_of n count full ≡ 0 → (full ≡ true) × (count ≡ 2 * n)
+unfolding counts_of
+counts_good n count full e = let z = or_else_none (unless_holds Length full) (size_of (2 * n) count) e in (held Length full z.0, size_good z.1)
 
-counts-hold : (n count : ℕ) (full : Bool) → full ≡ true → count ≡ 2 * n → countsOf n count full ≡ 0
-unfolding countsOf
-counts-hold n count full e f = rw e (size-passes {want = 2 * n} {have = count} f)
+counts_hold : (n count : ℕ) (full : Bool) → full ≡ true → count ≡ 2 * n → counts_of n count full ≡ 0
+unfolding counts_of
+counts_hold n count full e f = rw e (size_passes {want = 2 * n} {have = count} f)
 
 -- ---- the refusals of a tableau are those of its columns
-module _ (d n : ℕ) (bytes : List ℕ) (columns : List (List ℕ)) (full : fullColumns n columns ≡ true) (many : length columns ≡ 2 * n) (same : bytes ≡ bytesOf (concatenated (λ (c : List ℕ). c) columns)) where
-  sized : length bytes ≡ tableauBytes n
-  sized = ap length same ∙ bytes-length (concatenated (λ (c : List ℕ). c) columns) ∙ ap (λ (k : ℕ). 2 * k) (full-length n columns full ∙ ap (λ (k : ℕ). k * (1 + 2 * n)) many)
+module _ (d n : ℕ) (bytes : List ℕ) (columns : List (List ℕ)) (full : full_columns n columns ≡ true) (many : length columns ≡ 2 * n) (same : bytes ≡ bytes_of (concatenated (λ (c : List ℕ). c) columns)) where
+  sized : length bytes ≡ tableau_bytes n
+  sized = ap length same ∙ bytes_length (concatenated (λ (c : List ℕ). c) columns) ∙ ap (λ (k : ℕ). 2 * k) (full_length n columns full ∙ ap (λ (k : ℕ). k * (1 + 2 * n)) many)
 
-  decoded : decodeTableau n bytes ≡ map (pauliOf n) columns
-  decoded = ap (decodeTableau n) same ∙ columns-decoded n columns full many
+  decoded : decode_tableau n bytes ≡ map (pauli_of n) columns
+  decoded = ap (decode_tableau n) same ∙ columns_decoded n columns full many
 
-  malformed-same : (room : ℕ) → 11008 ≤ room → malformedOf d n bytes room ≡ columnsMalformed d n columns
-  malformed-same room large = orElse-past (givenOf d n) (λ e. rest (given-good e).width.n-high)
+  malformed_same : (room : ℕ) → 11008 ≤ room → malformed_of d n bytes room ≡ columns_malformed d n columns
+  malformed_same room large = or_else_past (given_of d n) (λ e. rest (given_good e).width.n_high)
     where
-      rest : n ≤ 16 → orElse (sizeOf (tableauBytes n) (length bytes)) (orElse (roomOf (40 * (n * n) + 48 * n) room) (tableauRangeOf d (decodeTableau n bytes)))
-          ≡ orElse (countsOf n (length columns) (fullColumns n columns)) (tableauRangeOf d (map (pauliOf n) columns))
-      rest h = rw (size-passes {want = tableauBytes n} {have = length bytes} sized, room-passes {want = 40 * (n * n) + 48 * n} {have = room} (omega (arith, large, square-small n h)), decoded, counts-hold n (length columns) (fullColumns n columns) full many)
+      rest : n ≤ 16 → or_else (size_of (tableau_bytes n) (length bytes)) (or_else (room_of (40 * (n * n) + 48 * n) room) (tableau_range_of d (decode_tableau n bytes)))
+          ≡ or_else (counts_of n (length columns) (full_columns n columns)) (tableau_range_of d (map (pauli_of n) columns))
+      rest h = rw (size_passes {want = tableau_bytes n} {have = length bytes} sized, room_passes {want = 40 * (n * n) + 48 * n} {have = room} (omega (arith, large, square_small n h)), decoded, counts_hold n (length columns) (full_columns n columns) full many)
 
-  refusal-same : (room : ℕ) → 11008 ≤ room → synthesisRefusal d n bytes room ≡ columnsRefusal d n columns
-  refusal-same room large = ap₂ orElse (malformed-same room large) (ap (soundnessOf d n) decoded)
+  refusal_same : (room : ℕ) → 11008 ≤ room → synthesis_refusal d n bytes room ≡ columns_refusal d n columns
+  refusal_same room large = ap₂ or_else (malformed_same room large) (ap (soundness_of d n) decoded)
 
 -- ---- legal rows fit the format, and are few bytes
-legal-fits : (d n : ℕ) (w : WrittenRow) (r : Row) → d ≤ 1024 → n ≤ 16 → w ≡ written r → Legal d n r → RowFits w
-legal-fits d n w r hd hn e l = rw e (fits r l)
+legal_fits : (d n : ℕ) (w : WrittenRow) (r : Row) → d ≤ 1024 → n ≤ 16 → w ≡ written r → Legal d n r → RowFits w
+legal_fits d n w r hd hn e l = rw e (fits r l)
   where
     fits : (r : Row) → Legal d n r → RowFits (written r)
     fits (F i k) l = omega (arith, l)
@@ -110,132 +110,132 @@ legal-fits d n w r hd hn e l = rw e (fits r l)
     fits (C i j k) l = omega (arith, l.0, l.1)
     fits (W i j) l = omega (arith, l)
 
-rows-fit : (d n : ℕ) (rows : List WrittenRow) → d ≤ 1024 → n ≤ 16 → allLegalRows d n rows ≡ true → Every RowFits rows
-unfolding allRows Every
-rows-fit d n [] hd hn e = search rules
-rows-fit d n (w ∷ ws) hd hn e =
-    let b = both-held (legalRow d n w) (allLegalRows d n ws) e in
-    (legal-fits d n w (meant w) hd hn (sym (written-meant d n w b.0)) (legal-meant d n w b.0), rows-fit d n ws hd hn b.1)
+rows_fit : (d n : ℕ) (rows : List WrittenRow) → d ≤ 1024 → n ≤ 16 → all_legal_rows d n rows ≡ true → Every RowFits rows
+unfolding all_rows Every
+rows_fit d n [] hd hn e = search rules
+rows_fit d n (w ∷ ws) hd hn e =
+    let b = both_held (legal_row d n w) (all_legal_rows d n ws) e in
+    (legal_fits d n w (meant w) hd hn (sym (written_meant d n w b.0)) (legal_meant d n w b.0), rows_fit d n ws hd hn b.1)
 
-field-length : (x : ℕ) (rest : List ℕ) → x ≤ 65535 → length (digits x ++ rest) ≤ 5 + length rest
-field-length x rest h = omega (arith, length-append (digits x) rest, five-digits x h)
+field_length : (x : ℕ) (rest : List ℕ) → x ≤ 65535 → length (digits x ++ rest) ≤ 5 + length rest
+field_length x rest h = omega (arith, length-append (digits x) rest, five_digits x h)
 
-row-length : (r : WrittenRow) → RowFits r → length (rowLine r) ≤ 20
+row_length : (r : WrittenRow) → RowFits r → length (row_line r) ≤ 20
 unfolding line
-row-length r f =
+row_length r f =
     let c : List ℕ = digits r.power ++ (10 ∷ []) in
     let b : List ℕ = digits r.second ++ (44 ∷ c) in
-    omega (arith, field-length r.power (10 ∷ []) f.1.1.1, field-length r.second (44 ∷ c) f.1.1.0, field-length r.first (44 ∷ b) f.1.0)
+    omega (arith, field_length r.power (10 ∷ []) f.1.1.1, field_length r.second (44 ∷ c) f.1.1.0, field_length r.first (44 ∷ b) f.1.0)
 
-rows-length : (rows : List WrittenRow) → Every RowFits rows → length (concatenated rowLine rows) ≤ 20 * length rows
+rows_length : (rows : List WrittenRow) → Every RowFits rows → length (concatenated row_line rows) ≤ 20 * length rows
 unfolding concatenated Every
-rows-length [] f = omega arith
-rows-length (r ∷ rs) f = omega (arith, length-append (rowLine r) (concatenated rowLine rs), row-length r f.0, rows-length rs f.1)
+rows_length [] f = omega arith
+rows_length (r ∷ rs) f = omega (arith, length-append (row_line r) (concatenated row_line rs), row_length r f.0, rows_length rs f.1)
 
-list-length : (d n : ℕ) (rows : List WrittenRow) → d ≤ 65535 → n ≤ 65535 → Every RowFits rows → length (printFile (listFile d n rows)) ≤ 14 + 20 * length rows
+list_length : (d n : ℕ) (rows : List WrittenRow) → d ≤ 65535 → n ≤ 65535 → Every RowFits rows → length (print_file (list_file d n rows)) ≤ 14 + 20 * length rows
 unfolding line
-list-length d n rows hd hn f =
+list_length d n rows hd hn f =
     let c : List ℕ = digits n ++ (10 ∷ []) in
-    omega (arith, length-append (header 76 d n) (concatenated rowLine rows), field-length n (10 ∷ []) hn, field-length d (44 ∷ c) hd, rows-length rows f)
+    omega (arith, length-append (header 76 d n) (concatenated row_line rows), field_length n (10 ∷ []) hn, field_length d (44 ∷ c) hd, rows_length rows f)
 
 -- ---- what is printed
 -- the counts are wrong, or 1 or 2
-pub columns-refused : (d n count : ℕ) (full : Bool) (numbers : List ℕ) {r : Check} {k : Refusal} {output : List ℕ} → numberOf r ≡ orElse (givenOf d n) (countsOf n count full) → r ≡ Refused k
-    → output ≡ printRefusal (numberOf r) → ColumnsConvert d n count full numbers output
-columns-refused d n count full numbers {output = output} e f p = λ columns rest c q same.
-    let x = orElse (givenOf d n) (countsOf n count full) in
-    let t = map (pauliOf n) columns in
-    let y = orElse (tableauRangeOf d t) (soundnessOf d n t) in
-    let some : x ≢ 0 = λ o. not-zero (e ∙ o) f in
-    let m : columnsMalformed d n columns ≡ orElse x (tableauRangeOf d t)
-    = sym (orElse-assoc (givenOf d n) (countsOf n count full) (tableauRangeOf d t) ∙ ap₂ (λ (k : ℕ) (b : Bool). orElse (givenOf d n) (orElse (countsOf n k b) (tableauRangeOf d t))) c q) in
-    let z : columnsRefusal d n columns ≡ orElse x y = ap (λ (k : ℕ). orElse k (soundnessOf d n t)) m ∙ orElse-assoc x (tableauRangeOf d t) (soundnessOf d n t) in
+pub columns_refused : (d n count : ℕ) (full : Bool) (numbers : List ℕ) {r : Check} {k : Refusal} {output : List ℕ} → number_of r ≡ or_else (given_of d n) (counts_of n count full) → r ≡ Refused k
+    → output ≡ print_refusal (number_of r) → ColumnsConvert d n count full numbers output
+columns_refused d n count full numbers {output = output} e f p = λ columns rest c q same.
+    let x = or_else (given_of d n) (counts_of n count full) in
+    let t = map (pauli_of n) columns in
+    let y = or_else (tableau_range_of d t) (soundness_of d n t) in
+    let some : x ≢ 0 = λ o. not_zero (e ∙ o) f in
+    let m : columns_malformed d n columns ≡ or_else x (tableau_range_of d t)
+    = sym (or_else_assoc (given_of d n) (counts_of n count full) (tableau_range_of d t) ∙ ap₂ (λ (k : ℕ) (b : Bool). or_else (given_of d n) (or_else (counts_of n k b) (tableau_range_of d t))) c q) in
+    let z : columns_refusal d n columns ≡ or_else x y = ap (λ (k : ℕ). or_else k (soundness_of d n t)) m ∙ or_else_assoc x (tableau_range_of d t) (soundness_of d n t) in
     record {
-      refused = λ r. p ∙ ap printRefusal ((stop x y e f).same ∙ sym z);
-      accepted = λ r. absurd (some (orElse-none x y (sym z ∙ r)).0);
-      unrealisable = λ r. absurd (some (orElse-none x (tableauRangeOf d t) (sym m ∙ r)).0);
+      refused = λ r. p ∙ ap print_refusal ((stop x y e f).same ∙ sym z);
+      accepted = λ r. absurd (some (or_else_none x y (sym z ∙ r)).0);
+      unrealisable = λ r. absurd (some (or_else_none x (tableau_range_of d t) (sym m ∙ r)).0);
     }
 
 -- past the counts: the bytes at the buffer's front are the tableau's
-pub columns-passed : (d n count : ℕ) (full : Bool) {r : Check} → numberOf r ≡ orElse (givenOf d n) (countsOf n count full) → r ≡ Good → Given d n × ((full ≡ true) × (count ≡ 2 * n))
-columns-passed d n count full e f =
-    let z = orElse-none (givenOf d n) (countsOf n count full) (good _ e f) in
-    (given-good z.0, counts-good n count full z.1)
+pub columns_passed : (d n count : ℕ) (full : Bool) {r : Check} → number_of r ≡ or_else (given_of d n) (counts_of n count full) → r ≡ Good → Given d n × ((full ≡ true) × (count ≡ 2 * n))
+columns_passed d n count full e f =
+    let z = or_else_none (given_of d n) (counts_of n count full) (good _ e f) in
+    (given_good z.0, counts_good n count full z.1)
 
-pub columns-bytes : (n count room : ℕ) → count ≡ 2 * n → 2 * (count * (1 + 2 * n)) ≤ room → 2 * (2 * n * (1 + 2 * n)) ≤ room
-columns-bytes n count room e h = rw e at h
+pub columns_bytes : (n count room : ℕ) → count ≡ 2 * n → 2 * (count * (1 + 2 * n)) ≤ room → 2 * (2 * n * (1 + 2 * n)) ≤ room
+columns_bytes n count room e h = rw e at h
 
-pub columns-tableau : (d n count : ℕ) (full : Bool) (numbers output : List ℕ) → full ≡ true → count ≡ 2 * n → TableauConverts d n (take (2 * (2 * n * (1 + 2 * n))) numbers) output
+pub columns_tableau : (d n count : ℕ) (full : Bool) (numbers output : List ℕ) → full ≡ true → count ≡ 2 * n → TableauConverts d n (take (2 * (2 * n * (1 + 2 * n))) numbers) output
     → ColumnsConvert d n count full numbers output
-columns-tableau d n count full numbers output f m h = λ columns rest c q same.
+columns_tableau d n count full numbers output f m h = λ columns rest c q same.
     let all : List ℕ = concatenated (λ (x : List ℕ). x) columns in
-    let g : fullColumns n columns ≡ true = sym q ∙ f in
+    let g : full_columns n columns ≡ true = sym q ∙ f in
     let k : length columns ≡ 2 * n = sym c ∙ m in
-    let l : length (bytesOf all) ≡ 2 * (2 * n * (1 + 2 * n)) = bytes-length all ∙ ap (λ (x : ℕ). 2 * x) (full-length n columns g ∙ ap (λ (x : ℕ). x * (1 + 2 * n)) k) in
-    h columns g k (ap (take (2 * (2 * n * (1 + 2 * n)))) same ∙ take_at (bytesOf all) rest (2 * (2 * n * (1 + 2 * n))) l)
+    let l : length (bytes_of all) ≡ 2 * (2 * n * (1 + 2 * n)) = bytes_length all ∙ ap (λ (x : ℕ). 2 * x) (full_length n columns g ∙ ap (λ (x : ℕ). x * (1 + 2 * n)) k) in
+    h columns g k (ap (take (2 * (2 * n * (1 + 2 * n)))) same ∙ take_at (bytes_of all) rest (2 * (2 * n * (1 + 2 * n))) l)
 
 -- where the call's answer is a
 module _ (d n : ℕ) (tableau old new : List ℕ) (a : Answer) (s : Synthesised d n tableau old new a) where
   -- `R,7` and `R,8` are printed where the call's number is 7 or 8
-  told : (columns : List (List ℕ)) → fullColumns n columns ≡ true → length columns ≡ 2 * n → tableau ≡ bytesOf (concatenated (λ (c : List ℕ). c) columns) → {output : List ℕ} → 11008 ≤ length old
-      → ((j : ℕ) → j ≢ 0 → (output ≡ printRefusal j) ↔ (a.number ≡ j))
-      → columnsMalformed d n columns ≡ 0 → ((output ≡ printRefusal 7) ⊎ (output ≡ printRefusal 8)) ↔ ¬ Realisable d n (map (pauliOf n) columns)
+  told : (columns : List (List ℕ)) → full_columns n columns ≡ true → length columns ≡ 2 * n → tableau ≡ bytes_of (concatenated (λ (c : List ℕ). c) columns) → {output : List ℕ} → 11008 ≤ length old
+      → ((j : ℕ) → j ≢ 0 → (output ≡ print_refusal j) ↔ (a.number ≡ j))
+      → columns_malformed d n columns ≡ 0 → ((output ≡ print_refusal 7) ⊎ (output ≡ print_refusal 8)) ↔ ¬ Realisable d n (map (pauli_of n) columns)
   told columns f m same {output} h says z =
-      let u = rw (decoded d n tableau columns f m same) at (s.unrealisable (malformed-same d n tableau columns f m same (length old) h ∙ z)) in
+      let u = rw (decoded d n tableau columns f m same) at (s.unrealisable (malformed_same d n tableau columns f m same (length old) h ∙ z)) in
       (λ p. u.0 (there p), λ r. back (u.1 r))
     where
-      seven : (output ≡ printRefusal 7) ↔ (a.number ≡ 7)
+      seven : (output ≡ print_refusal 7) ↔ (a.number ≡ 7)
       seven = says 7 (λ e. omega arith)
 
-      eight : (output ≡ printRefusal 8) ↔ (a.number ≡ 8)
+      eight : (output ≡ print_refusal 8) ↔ (a.number ≡ 8)
       eight = says 8 (λ e. omega arith)
 
-      there : (output ≡ printRefusal 7) ⊎ (output ≡ printRefusal 8) → (a.number ≡ 7) ⊎ (a.number ≡ 8)
+      there : (output ≡ print_refusal 7) ⊎ (output ≡ print_refusal 8) → (a.number ≡ 7) ⊎ (a.number ≡ 8)
       there (inl e) = inl (seven.0 e)
       there (inr e) = inr (eight.0 e)
 
-      back : (a.number ≡ 7) ⊎ (a.number ≡ 8) → (output ≡ printRefusal 7) ⊎ (output ≡ printRefusal 8)
+      back : (a.number ≡ 7) ⊎ (a.number ≡ 8) → (output ≡ print_refusal 7) ⊎ (output ≡ print_refusal 8)
       back (inl e) = inl (seven.1 e)
       back (inr e) = inr (eight.1 e)
 
-  pub tableau-refused : {output : List ℕ} → 11008 ≤ length old → a.number ≢ 0 → output ≡ printRefusal a.number → TableauConverts d n tableau output
-  tableau-refused h z p = λ columns f m same.
-      let e : a.number ≡ columnsRefusal d n columns = s.number ∙ refusal-same d n tableau columns f m same (length old) h in
+  pub tableau_refused : {output : List ℕ} → 11008 ≤ length old → a.number ≢ 0 → output ≡ print_refusal a.number → TableauConverts d n tableau output
+  tableau_refused h z p = λ columns f m same.
+      let e : a.number ≡ columns_refusal d n columns = s.number ∙ refusal_same d n tableau columns f m same (length old) h in
       record {
-        refused = λ r. p ∙ ap printRefusal e;
+        refused = λ r. p ∙ ap print_refusal e;
         accepted = λ r. absurd (z (e ∙ r));
-        unrealisable = told columns f m same h (λ j l. (λ q. refusal-unique a.number j (sym p ∙ q), λ q. p ∙ ap printRefusal q));
+        unrealisable = told columns f m same h (λ j l. (λ q. refusal_unique a.number j (sym p ∙ q), λ q. p ∙ ap print_refusal q));
       }
 
   -- the list's bytes are there, and few
-  pub list-few : a.number ≡ 0 → a.value ≤ 1376
-  list-few z =
-      let g = (accepted-given d n tableau (length old) (sym s.number ∙ z)).0 in
-      omega (arith, (s.list z).short, square-small n g.width.n-high, g.width.n-high)
+  pub list_few : a.number ≡ 0 → a.value ≤ 1376
+  list_few z =
+      let g = (accepted_given d n tableau (length old) (sym s.number ∙ z)).0 in
+      omega (arith, (s.list z).short, square_small n g.width.n_high, g.width.n_high)
 
   -- the list
-  pub tableau-printed : {output : List ℕ} → 11008 ≤ length old → a.number ≡ 0 → output ≡ printFile (listFileOf d n (handed a.value new) a.value) → TableauConverts d n tableau output
-  tableau-printed {output} h z p = λ columns f m same. record {
-    refused = λ r. absurd (r (sym (refusal-same d n tableau columns f m same (length old) h) ∙ sym s.number ∙ z));
+  pub tableau_printed : {output : List ℕ} → 11008 ≤ length old → a.number ≡ 0 → output ≡ print_file (list_file_of d n (handed a.value new) a.value) → TableauConverts d n tableau output
+  tableau_printed {output} h z p = λ columns f m same. record {
+    refused = λ r. absurd (r (sym (refusal_same d n tableau columns f m same (length old) h) ∙ sym s.number ∙ z));
     accepted = λ r. subst (λ (t : List Pauli). PrintsList d n t output) (decoded d n tableau columns f m same) list;
-    unrealisable = told columns f m same h (λ j l. (λ q. absurd (refusal-no-list j d n _ (sym p ∙ q)), λ q. absurd (l (sym q ∙ z))));
+    unrealisable = told columns f m same h (λ j l. (λ q. absurd (refusal_no_list j d n _ (sym p ∙ q)), λ q. absurd (l (sym q ∙ z))));
   }
     where
       rows : List WrittenRow
-      rows = listRows (handed a.value new)
+      rows = list_rows (handed a.value new)
 
       count : length rows ≡ a.value
-      count = sym (length-map (listRows (handed a.value new)) meant) ∙ (s.list z).counted
+      count = sym (length-map (list_rows (handed a.value new)) meant) ∙ (s.list z).counted
 
-      same-rows : tab (rowAt (handed a.value new)) a.value ≡ rows
-      same-rows = ap (tab (rowAt (handed a.value new))) (sym count ∙ tab-length (rowAt (handed a.value new)) (length (handed a.value new) / 8))
+      same_rows : tab (row_at (handed a.value new)) a.value ≡ rows
+      same_rows = ap (tab (row_at (handed a.value new))) (sym count ∙ tab_length (row_at (handed a.value new)) (length (handed a.value new) / 8))
 
-      list : PrintsList d n (decodeTableau n tableau) output
+      list : PrintsList d n (decode_tableau n tableau) output
       list =
-          let g = (accepted-given d n tableau (length old) (sym s.number ∙ z)).0 in
-          let fits = rows-fit d n rows g.dimension.d-high g.width.n-high (s.list z).legal in
-          let print : output ≡ printFile (listFile d n rows) = p ∙ ap (λ (l : List WrittenRow). printFile (listFile d n l)) same-rows in
-          let short : length output ≤ 65536 = omega (arith, ap length print, list-length d n rows (omega (arith, g.dimension)) (omega (arith, g.width)) fits, count, list-few z) in
+          let g = (accepted_given d n tableau (length old) (sym s.number ∙ z)).0 in
+          let fits = rows_fit d n rows g.dimension.d_high g.width.n_high (s.list z).legal in
+          let print : output ≡ print_file (list_file d n rows) = p ∙ ap (λ (l : List WrittenRow). print_file (list_file d n l)) same_rows in
+          let short : length output ≤ 65536 = omega (arith, ap length print, list_length d n rows (omega (arith, g.dimension)) (omega (arith, g.width)) fits, count, list_few z) in
           record {
             rows = rows;
             laid = (short, (((omega (arith, g.dimension), omega (arith, g.width)), fits), print));

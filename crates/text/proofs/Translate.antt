@@ -8,29 +8,29 @@ use native.Mathlib.Numerals.{add-one}
 use native.Mathlib.Omega.{arith}
 use lib.ListN.{length, get_or, set, length-set}
 use lib.Seq.{sets, get_or-set_same, get_or-set_other}
-use Rattle.arith.specs.Bytes.{tab, numberAt, bytesOf}
-use Rattle.arith.proofs.Bytes.{tab-ext, tab-map}
-use Rattle.arith.proofs.Cases.{by-eq}
-use Rattle.gates.specs.Written.{withPower, rowAt, listRows}
-use Rattle.gates.proofs.Written.{row-path}
+use Rattle.arith.specs.Bytes.{tab, number_at, bytes_of}
+use Rattle.arith.proofs.Bytes.{tab_ext, tab_map}
+use Rattle.arith.proofs.Cases.{by_eq}
+use Rattle.gates.specs.Written.{with_power, row_at, list_rows}
+use Rattle.gates.proofs.Written.{row_path}
 use Rattle.text.specs.Partner.{translated}
-use Rattle.text.proofs.PartnerRows.{translated-power}
+use Rattle.text.proofs.PartnerRows.{translated_power}
 
 -- ---- number k of the bytes b is written anew, as x
 module _ (b : List ℕ) (k x : ℕ) where
-  byte-kept : (i : ℕ) → i ≢ 2 * k → i ≢ suc (2 * k) → get_or (set (set b (2 * k) (x % 256)) (suc (2 * k)) (x / 256)) i 0 ≡ get_or b i 0
-  byte-kept i p q = get_or-set_other (set b (2 * k) (x % 256)) (suc (2 * k)) i (x / 256) 0 q ∙ get_or-set_other b (2 * k) i (x % 256) 0 p
+  byte_kept : (i : ℕ) → i ≢ 2 * k → i ≢ suc (2 * k) → get_or (set (set b (2 * k) (x % 256)) (suc (2 * k)) (x / 256)) i 0 ≡ get_or b i 0
+  byte_kept i p q = get_or-set_other (set b (2 * k) (x % 256)) (suc (2 * k)) i (x / 256) 0 q ∙ get_or-set_other b (2 * k) i (x % 256) 0 p
 
-  number-kept : (j : ℕ) → j ≢ k → numberAt (sets b (2 * k) (bytesOf (x ∷ []))) j ≡ numberAt b j
-  unfolding numberAt bytesOf
-  number-kept j ne =
+  number_kept : (j : ℕ) → j ≢ k → number_at (sets b (2 * k) (bytes_of (x ∷ []))) j ≡ number_at b j
+  unfolding number_at bytes_of
+  number_kept j ne =
       ap₂ (λ (u v : ℕ). u + 256 * v)
-      (byte-kept (2 * j) (λ (e : 2 * j ≡ 2 * k). ne (omega arith)) (λ (e : 2 * j ≡ suc (2 * k)). omega arith))
-      (byte-kept (2 * j + 1) (λ (e : 2 * j + 1 ≡ 2 * k). omega arith) (λ (e : 2 * j + 1 ≡ suc (2 * k)). ne (omega arith)))
+      (byte_kept (2 * j) (λ (e : 2 * j ≡ 2 * k). ne (omega arith)) (λ (e : 2 * j ≡ suc (2 * k)). omega arith))
+      (byte_kept (2 * j + 1) (λ (e : 2 * j + 1 ≡ 2 * k). omega arith) (λ (e : 2 * j + 1 ≡ suc (2 * k)). ne (omega arith)))
 
-  number-put : 2 * k + 1 < length b → numberAt (sets b (2 * k) (bytesOf (x ∷ []))) k ≡ x
-  unfolding numberAt bytesOf
-  number-put h =
+  number_put : 2 * k + 1 < length b → number_at (sets b (2 * k) (bytes_of (x ∷ []))) k ≡ x
+  unfolding number_at bytes_of
+  number_put h =
       let l : List ℕ = set b (2 * k) (x % 256) in
       let low = get_or-set_other l (suc (2 * k)) (2 * k) (x / 256) 0 (λ (e : 2 * k ≡ suc (2 * k)). omega arith) ∙ get_or-set_same b (2 * k) (x % 256) 0 (omega arith) in
       let high = ap (λ (i : ℕ). get_or (set l (suc (2 * k)) (x / 256)) i 0) (add-one (2 * k)) ∙ get_or-set_same l (suc (2 * k)) (x / 256) 0 (omega (arith, length-set b (2 * k) (x % 256))) in
@@ -38,37 +38,37 @@ module _ (b : List ℕ) (k x : ℕ) where
 
 -- ---- the power of row r is written anew
 module _ (b : List ℕ) (r x : ℕ) where
-  row-put : 8 * r + 8 ≤ length b → rowAt (sets b (2 * (4 * r + 3)) (bytesOf (x ∷ []))) r ≡ withPower (rowAt b r) x
-  row-put h =
-      row-path (number-kept b (4 * r + 3) x (4 * r) (λ (e : 4 * r ≡ 4 * r + 3). omega arith)) (number-kept b (4 * r + 3) x (4 * r + 1) (λ (e : 4 * r + 1 ≡ 4 * r + 3). omega arith))
-      (number-kept b (4 * r + 3) x (4 * r + 2) (λ (e : 4 * r + 2 ≡ 4 * r + 3). omega arith)) (number-put b (4 * r + 3) x (omega arith))
+  row_put : 8 * r + 8 ≤ length b → row_at (sets b (2 * (4 * r + 3)) (bytes_of (x ∷ []))) r ≡ with_power (row_at b r) x
+  row_put h =
+      row_path (number_kept b (4 * r + 3) x (4 * r) (λ (e : 4 * r ≡ 4 * r + 3). omega arith)) (number_kept b (4 * r + 3) x (4 * r + 1) (λ (e : 4 * r + 1 ≡ 4 * r + 3). omega arith))
+      (number_kept b (4 * r + 3) x (4 * r + 2) (λ (e : 4 * r + 2 ≡ 4 * r + 3). omega arith)) (number_put b (4 * r + 3) x (omega arith))
 
-  row-kept : (i : ℕ) → i ≢ r → rowAt (sets b (2 * (4 * r + 3)) (bytesOf (x ∷ []))) i ≡ rowAt b i
-  row-kept i ne =
-      row-path (number-kept b (4 * r + 3) x (4 * i) (λ (e : 4 * i ≡ 4 * r + 3). omega arith)) (number-kept b (4 * r + 3) x (4 * i + 1) (λ (e : 4 * i + 1 ≡ 4 * r + 3). omega arith))
-      (number-kept b (4 * r + 3) x (4 * i + 2) (λ (e : 4 * i + 2 ≡ 4 * r + 3). omega arith)) (number-kept b (4 * r + 3) x (4 * i + 3) (λ (e : 4 * i + 3 ≡ 4 * r + 3). ne (omega arith)))
+  row_kept : (i : ℕ) → i ≢ r → row_at (sets b (2 * (4 * r + 3)) (bytes_of (x ∷ []))) i ≡ row_at b i
+  row_kept i ne =
+      row_path (number_kept b (4 * r + 3) x (4 * i) (λ (e : 4 * i ≡ 4 * r + 3). omega arith)) (number_kept b (4 * r + 3) x (4 * i + 1) (λ (e : 4 * i + 1 ≡ 4 * r + 3). omega arith))
+      (number_kept b (4 * r + 3) x (4 * i + 2) (λ (e : 4 * i + 2 ≡ 4 * r + 3). omega arith)) (number_kept b (4 * r + 3) x (4 * i + 3) (λ (e : 4 * i + 3 ≡ 4 * r + 3). ne (omega arith)))
 
 -- ---- the loop: the first r rows are translated, and the others are as they were
 pub record Partly (d r : ℕ) (old new : List ℕ) : Type 0 where
-  pub before : (i : ℕ) → i < r → rowAt new i ≡ translated d (rowAt old i)
-  pub after : (i : ℕ) → r ≤ i → rowAt new i ≡ rowAt old i
+  pub before : (i : ℕ) → i < r → row_at new i ≡ translated d (row_at old i)
+  pub after : (i : ℕ) → r ≤ i → row_at new i ≡ row_at old i
 
-pub partly-next : (d r : ℕ) (old new : List ℕ) {x : ℕ} {last : List ℕ} → 8 * r + 8 ≤ length new → Partly d r old new → x ≡ (translated d (rowAt new r)).power
-    → last ≡ sets new (2 * (4 * r + 3)) (bytesOf (x ∷ [])) → Partly d (r + 1) old last
-partly-next d r old new {x} {last} h p q f = rw f (record { before = λ i l. by-eq i r (here i) (λ ne. row-kept new r x i ne ∙ p.before i (omega arith)); after = λ i l. row-kept new r x i (λ (e : i ≡ r). omega arith) ∙ p.after i (omega arith) })
+pub partly_next : (d r : ℕ) (old new : List ℕ) {x : ℕ} {last : List ℕ} → 8 * r + 8 ≤ length new → Partly d r old new → x ≡ (translated d (row_at new r)).power
+    → last ≡ sets new (2 * (4 * r + 3)) (bytes_of (x ∷ [])) → Partly d (r + 1) old last
+partly_next d r old new {x} {last} h p q f = rw f (record { before = λ i l. by_eq i r (here i) (λ ne. row_kept new r x i ne ∙ p.before i (omega arith)); after = λ i l. row_kept new r x i (λ (e : i ≡ r). omega arith) ∙ p.after i (omega arith) })
   where
-    here : (i : ℕ) → i ≡ r → rowAt (sets new (2 * (4 * r + 3)) (bytesOf (x ∷ []))) i ≡ translated d (rowAt old i)
+    here : (i : ℕ) → i ≡ r → row_at (sets new (2 * (4 * r + 3)) (bytes_of (x ∷ []))) i ≡ translated d (row_at old i)
     here i e =
-        ap (rowAt (sets new (2 * (4 * r + 3)) (bytesOf (x ∷ [])))) e
-        ∙ row-put new r x h
-        ∙ ap (withPower (rowAt new r)) q
-        ∙ translated-power d (rowAt new r)
+        ap (row_at (sets new (2 * (4 * r + 3)) (bytes_of (x ∷ [])))) e
+        ∙ row_put new r x h
+        ∙ ap (with_power (row_at new r)) q
+        ∙ translated_power d (row_at new r)
         ∙ ap (translated d) (p.after r (omega arith))
-        ∙ ap (λ (j : ℕ). translated d (rowAt old j)) (sym e)
+        ∙ ap (λ (j : ℕ). translated d (row_at old j)) (sym e)
 
 -- every row
-pub partly-all : (d : ℕ) (old new : List ℕ) → length new ≡ length old → Partly d (length old / 8) old new → listRows new ≡ map (translated d) (listRows old)
-partly-all d old new e p =
-    ap (λ (m : ℕ). tab (rowAt new) (m / 8)) e
-    ∙ tab-ext (rowAt new) (λ i. translated d (rowAt old i)) (length old / 8) p.before
-    ∙ sym (tab-map (translated d) (rowAt old) (length old / 8))
+pub partly_all : (d : ℕ) (old new : List ℕ) → length new ≡ length old → Partly d (length old / 8) old new → list_rows new ≡ map (translated d) (list_rows old)
+partly_all d old new e p =
+    ap (λ (m : ℕ). tab (row_at new) (m / 8)) e
+    ∙ tab_ext (row_at new) (λ i. translated d (row_at old i)) (length old / 8) p.before
+    ∙ sym (tab_map (translated d) (row_at old) (length old / 8))

@@ -7,106 +7,106 @@ use native.Mathlib.Numerals.{add-one}
 use native.Mathlib.Omega.{arith}
 use lib.ListN.{length, set, drop, length-append}
 use lib.Seq.{sets, sets-eq}
-use Rattle.arith.proofs.Bytes.{tab-more, sets-append}
-use Rattle.arith.specs.Bytes.{tab, numberAt, numbersAt}
-use Rattle.gates.specs.Written.{rowAt}
-use Rattle.text.specs.Format.{digits, line, letterOf, header, columnLine, rowLine, concatenated, printRefusal}
-use Rattle.text.specs.inner.Prints.{PutsText, Prints}
-use Rattle.text.proofs.Digits.{digits-low, digits-last}
-use Rattle.text.proofs.Sound.{header-text, commas, commas-snoc, line-snoc, concatenated-snoc}
+use Rattle.arith.proofs.Bytes.{tab_more, sets_append}
+use Rattle.arith.specs.Bytes.{tab, number_at, numbers_at}
+use Rattle.gates.specs.Written.{row_at}
+use Rattle.text.specs.Format.{digits, line, letter_of, header, column_line, row_line, concatenated, print_refusal}
+use Rattle.text.specs.Inner.Prints.{PutsText, Prints}
+use Rattle.text.proofs.Digits.{digits_low, digits_last}
+use Rattle.text.proofs.Sound.{header_text, commas, commas_snoc, line_snoc, concatenated_snoc}
 
-pub puts-none : (out : List ℕ) (at : ℕ) → PutsText out at [] at out
-puts-none out at = record { ends = sym (add-zero at); holds = refl }
+pub puts_none : (out : List ℕ) (at : ℕ) → PutsText out at [] at out
+puts_none out at = record { ends = sym (add-zero at); holds = refl }
 
-pub puts-more : (out : List ℕ) (at : ℕ) (a b : List ℕ) (next : ℕ) (l : List ℕ) (last : ℕ) (m : List ℕ) → PutsText out at a next l → PutsText l next b last m → PutsText out at (a ++ b) last m
-puts-more out at a b next l last m p q = record {
+pub puts_more : (out : List ℕ) (at : ℕ) (a b : List ℕ) (next : ℕ) (l : List ℕ) (last : ℕ) (m : List ℕ) → PutsText out at a next l → PutsText l next b last m → PutsText out at (a ++ b) last m
+puts_more out at a b next l last m p q = record {
   ends = let e = p.ends in let f = q.ends in omega (arith, length-append a b);
-  holds = q.holds ∙ ap₂ (λ (z : List ℕ) (k : ℕ). sets z k b) p.holds p.ends ∙ sym (sets-append out at a b);
+  holds = q.holds ∙ ap₂ (λ (z : List ℕ) (k : ℕ). sets z k b) p.holds p.ends ∙ sym (sets_append out at a b);
 }
 
-pub puts-byte : (out : List ℕ) (at b : ℕ) → PutsText out at (b ∷ []) (at + 1) (set out at b)
-puts-byte out at b = record { ends = refl; holds = refl }
+pub puts_byte : (out : List ℕ) (at b : ℕ) → PutsText out at (b ∷ []) (at + 1) (set out at b)
+puts_byte out at b = record { ends = refl; holds = refl }
 
 -- one byte after a text
-pub puts-last : (out : List ℕ) (at : ℕ) (a : List ℕ) (b next : ℕ) (l : List ℕ) → PutsText out at a next l → PutsText out at (a ++ (b ∷ [])) (next + 1) (set l next b)
-puts-last out at a b next l p = puts-more out at a (b ∷ []) next l (next + 1) (set l next b) p (puts-byte l next b)
+pub puts_last : (out : List ℕ) (at : ℕ) (a : List ℕ) (b next : ℕ) (l : List ℕ) → PutsText out at a next l → PutsText out at (a ++ (b ∷ [])) (next + 1) (set l next b)
+puts_last out at a b next l p = puts_more out at a (b ∷ []) next l (next + 1) (set l next b) p (puts_byte l next b)
 
 -- the text that is written is the one that is meant
-pub puts-as : (out : List ℕ) (at : ℕ) (a b : List ℕ) (next : ℕ) (l : List ℕ) → a ≡ b → PutsText out at a next l → PutsText out at b next l
-puts-as out at a b next l e p = rw e at p
+pub puts_as : (out : List ℕ) (at : ℕ) (a b : List ℕ) (next : ℕ) (l : List ℕ) → a ≡ b → PutsText out at a next l → PutsText out at b next l
+puts_as out at a b next l e p = rw e at p
 
-pub puts-digit : (out : List ℕ) (at x : ℕ) → x < 10 → PutsText out at (digits x) (at + 1) (set out at (48 + x))
-puts-digit out at x h = puts-as out at ((48 + x) ∷ []) (digits x) (at + 1) (set out at (48 + x)) (sym (digits-low x h)) (puts-byte out at (48 + x))
+pub puts_digit : (out : List ℕ) (at x : ℕ) → x < 10 → PutsText out at (digits x) (at + 1) (set out at (48 + x))
+puts_digit out at x h = puts_as out at ((48 + x) ∷ []) (digits x) (at + 1) (set out at (48 + x)) (sym (digits_low x h)) (puts_byte out at (48 + x))
 
-pub puts-digits : (out : List ℕ) (at x next : ℕ) (l : List ℕ) → 10 ≤ x → PutsText out at (digits (x / 10)) next l → PutsText out at (digits x) (next + 1) (set l next (48 + x % 10))
-puts-digits out at x next l h p =
-    puts-as out at (digits (x / 10) ++ ((48 + x % 10) ∷ [])) (digits x) (next + 1) (set l next (48 + x % 10)) (sym (digits-last x h)) (puts-last out at (digits (x / 10)) (48 + x % 10) next l p)
+pub puts_digits : (out : List ℕ) (at x next : ℕ) (l : List ℕ) → 10 ≤ x → PutsText out at (digits (x / 10)) next l → PutsText out at (digits x) (next + 1) (set l next (48 + x % 10))
+puts_digits out at x next l h p =
+    puts_as out at (digits (x / 10) ++ ((48 + x % 10) ∷ [])) (digits x) (next + 1) (set l next (48 + x % 10)) (sym (digits_last x h)) (puts_last out at (digits (x / 10)) (48 + x % 10) next l p)
 
 -- a text from the start of an output that has room
-pub puts-front : (out text : List ℕ) (next : ℕ) (l : List ℕ) → next ≤ length out → PutsText out 0 text next l → Prints text out next l
-puts-front out text next l h p =
+pub puts_front : (out text : List ℕ) (next : ℕ) (l : List ℕ) → next ≤ length out → PutsText out 0 text next l → Prints text out next l
+puts_front out text next l h p =
     let e : next ≡ length text = p.ends ∙ zero-add (length text) in
     record { counts = e; fronts = p.holds ∙ sets-eq text out 0 (omega arith) ∙ ap (λ (k : ℕ). text ++ drop k out) (zero-add (length text)) }
 
 -- ---- lines
-pub puts-two : (out : List ℕ) (at a b : ℕ) → PutsText out at (a ∷ b ∷ []) (at + 2) (set (set out at a) (at + 1) b)
-puts-two out at a b = record { ends = refl; holds = rw add-one }
+pub puts_two : (out : List ℕ) (at a b : ℕ) → PutsText out at (a ∷ b ∷ []) (at + 2) (set (set out at a) (at + 1) b)
+puts_two out at a b = record { ends = refl; holds = rw add-one }
 
-pub puts-start : (out : List ℕ) (a b : ℕ) → PutsText out 0 (a ∷ b ∷ []) 2 (set (set out 0 a) 1 b)
-puts-start out a b = record { ends = refl; holds = refl }
+pub puts_start : (out : List ℕ) (a b : ℕ) → PutsText out 0 (a ∷ b ∷ []) 2 (set (set out 0 a) 1 b)
+puts_start out a b = record { ends = refl; holds = refl }
 
-pub puts-header : (out : List ℕ) (letter d n n1 : ℕ) (l1 : List ℕ) (n2 : ℕ) (l2 : List ℕ)
+pub puts_header : (out : List ℕ) (letter d n n1 : ℕ) (l1 : List ℕ) (n2 : ℕ) (l2 : List ℕ)
     → PutsText (set (set out 0 letter) 1 44) 2 (digits d ++ (44 ∷ [])) n1 l1 → PutsText l1 n1 (digits n ++ (10 ∷ [])) n2 l2 → PutsText out 0 (header letter d n) n2 l2
-puts-header out letter d n n1 l1 n2 l2 p q =
-    puts-as out 0 ((letter ∷ 44 ∷ (digits d ++ (44 ∷ []))) ++ (digits n ++ (10 ∷ []))) (header letter d n) n2 l2 (header-text letter d n)
-    (puts-more out 0 (letter ∷ 44 ∷ (digits d ++ (44 ∷ []))) (digits n ++ (10 ∷ [])) n1 l1 n2 l2
-    (puts-more out 0 (letter ∷ 44 ∷ []) (digits d ++ (44 ∷ [])) 2 (set (set out 0 letter) 1 44) n1 l1 (puts-start out letter 44) p) q)
+puts_header out letter d n n1 l1 n2 l2 p q =
+    puts_as out 0 ((letter ∷ 44 ∷ (digits d ++ (44 ∷ []))) ++ (digits n ++ (10 ∷ []))) (header letter d n) n2 l2 (header_text letter d n)
+    (puts_more out 0 (letter ∷ 44 ∷ (digits d ++ (44 ∷ []))) (digits n ++ (10 ∷ [])) n1 l1 n2 l2
+    (puts_more out 0 (letter ∷ 44 ∷ []) (digits d ++ (44 ∷ [])) 2 (set (set out 0 letter) 1 44) n1 l1 (puts_start out letter 44) p) q)
 
-pub puts-refusal : (out : List ℕ) (k n1 : ℕ) (l1 : List ℕ) → n1 ≤ length out → PutsText (set (set out 0 82) 1 44) 2 (digits k ++ (10 ∷ [])) n1 l1
-    → Prints (printRefusal k) out n1 l1
+pub puts_refusal : (out : List ℕ) (k n1 : ℕ) (l1 : List ℕ) → n1 ≤ length out → PutsText (set (set out 0 82) 1 44) 2 (digits k ++ (10 ∷ [])) n1 l1
+    → Prints (print_refusal k) out n1 l1
 unfolding line
-puts-refusal out k n1 l1 h p =
-    puts-front out (printRefusal k) n1 l1 h (puts-more out 0 (82 ∷ 44 ∷ []) (digits k ++ (10 ∷ [])) 2 (set (set out 0 82) 1 44) n1 l1 (puts-start out 82 44) p)
+puts_refusal out k n1 l1 h p =
+    puts_front out (print_refusal k) n1 l1 h (puts_more out 0 (82 ∷ 44 ∷ []) (digits k ++ (10 ∷ [])) 2 (set (set out 0 82) 1 44) n1 l1 (puts_start out 82 44) p)
 
 -- ---- loops that print a table
-pub commas-none : (out : List ℕ) (at : ℕ) (f : ℕ → ℕ) → PutsText out at (commas (tab f 0)) at out
+pub commas_none : (out : List ℕ) (at : ℕ) (f : ℕ → ℕ) → PutsText out at (commas (tab f 0)) at out
 unfolding tab commas
-commas-none out at f = puts-none out at
+commas_none out at f = puts_none out at
 
-pub commas-more : (f : ℕ → ℕ) (out : List ℕ) (at i x next : ℕ) (l : List ℕ) (n2 : ℕ) (l2 : List ℕ) → x ≡ f i
+pub commas_more : (f : ℕ → ℕ) (out : List ℕ) (at i x next : ℕ) (l : List ℕ) (n2 : ℕ) (l2 : List ℕ) → x ≡ f i
     → PutsText out at (commas (tab f i)) next l → PutsText l next (digits x ++ (44 ∷ [])) n2 l2 → PutsText out at (commas (tab f (i + 1))) n2 l2
-commas-more f out at i x next l n2 l2 e p q =
-    puts-as out at (commas (tab f i) ++ (digits (f i) ++ (44 ∷ []))) (commas (tab f (i + 1))) n2 l2 (sym (ap commas (tab-more f i) ∙ commas-snoc (tab f i) (f i)))
-    (puts-more out at (commas (tab f i)) (digits (f i) ++ (44 ∷ [])) next l n2 l2 p (rw e at q))
+commas_more f out at i x next l n2 l2 e p q =
+    puts_as out at (commas (tab f i) ++ (digits (f i) ++ (44 ∷ []))) (commas (tab f (i + 1))) n2 l2 (sym (ap commas (tab_more f i) ∙ commas_snoc (tab f i) (f i)))
+    (puts_more out at (commas (tab f i)) (digits (f i) ++ (44 ∷ [])) next l n2 l2 p (rw e at q))
 
-pub commas-end : (f : ℕ → ℕ) (out : List ℕ) (at i m x next : ℕ) (l : List ℕ) (n2 : ℕ) (l2 : List ℕ) → x ≡ f i → m ≡ i + 1
-    → PutsText out at (commas (tab f i)) next l → PutsText l next (digits x ++ (10 ∷ [])) n2 l2 → PutsText out at (columnLine (tab f m)) n2 l2
-commas-end f out at i m x next l n2 l2 e h p q =
-    puts-as out at (commas (tab f i) ++ (digits (f i) ++ (10 ∷ []))) (columnLine (tab f m)) n2 l2 (sym (ap columnLine (ap (tab f) h ∙ tab-more f i) ∙ line-snoc (tab f i) (f i)))
-    (puts-more out at (commas (tab f i)) (digits (f i) ++ (10 ∷ [])) next l n2 l2 p (rw e at q))
+pub commas_end : (f : ℕ → ℕ) (out : List ℕ) (at i m x next : ℕ) (l : List ℕ) (n2 : ℕ) (l2 : List ℕ) → x ≡ f i → m ≡ i + 1
+    → PutsText out at (commas (tab f i)) next l → PutsText l next (digits x ++ (10 ∷ [])) n2 l2 → PutsText out at (column_line (tab f m)) n2 l2
+commas_end f out at i m x next l n2 l2 e h p q =
+    puts_as out at (commas (tab f i) ++ (digits (f i) ++ (10 ∷ []))) (column_line (tab f m)) n2 l2 (sym (ap column_line (ap (tab f) h ∙ tab_more f i) ∙ line_snoc (tab f i) (f i)))
+    (puts_more out at (commas (tab f i)) (digits (f i) ++ (10 ∷ [])) next l n2 l2 p (rw e at q))
 
-pub lines-none : {A : Type 0} (line : A → List ℕ) (f : ℕ → A) (out : List ℕ) (at : ℕ) → PutsText out at (concatenated line (tab f 0)) at out
+pub lines_none : {A : Type 0} (line : A → List ℕ) (f : ℕ → A) (out : List ℕ) (at : ℕ) → PutsText out at (concatenated line (tab f 0)) at out
 unfolding tab concatenated
-lines-none line f out at = puts-none out at
+lines_none line f out at = puts_none out at
 
-pub lines-put : {A : Type 0} (line : A → List ℕ) (f : ℕ → A) (out : List ℕ) (at i next : ℕ) (l : List ℕ) (n2 : ℕ) (l2 : List ℕ)
+pub lines_put : {A : Type 0} (line : A → List ℕ) (f : ℕ → A) (out : List ℕ) (at i next : ℕ) (l : List ℕ) (n2 : ℕ) (l2 : List ℕ)
     → PutsText out at (concatenated line (tab f i)) next l → PutsText l next (line (f i)) n2 l2 → PutsText out at (concatenated line (tab f (i + 1))) n2 l2
-lines-put line f out at i next l n2 l2 p q =
-    puts-as out at (concatenated line (tab f i) ++ line (f i)) (concatenated line (tab f (i + 1))) n2 l2 (sym (ap (concatenated line) (tab-more f i) ∙ concatenated-snoc line (tab f i) (f i)))
-    (puts-more out at (concatenated line (tab f i)) (line (f i)) next l n2 l2 p q)
+lines_put line f out at i next l n2 l2 p q =
+    puts_as out at (concatenated line (tab f i) ++ line (f i)) (concatenated line (tab f (i + 1))) n2 l2 (sym (ap (concatenated line) (tab_more f i) ∙ concatenated_snoc line (tab f i) (f i)))
+    (puts_more out at (concatenated line (tab f i)) (line (f i)) next l n2 l2 p q)
 
 -- a row is its letter, a comma, and a line of three numbers
-row-numbers : (b : List ℕ) (k : ℕ) → numbersAt b (4 * k + 1) 3 ≡ numberAt b (4 * k + 1) ∷ numberAt b (4 * k + 2) ∷ numberAt b (4 * k + 3) ∷ []
+row_numbers_lem : (b : List ℕ) (k : ℕ) → numbers_at b (4 * k + 1) 3 ≡ number_at b (4 * k + 1) ∷ number_at b (4 * k + 2) ∷ number_at b (4 * k + 3) ∷ []
 unfolding tab
-row-numbers b k =
+row_numbers_lem b k =
     let e0 : 4 * k + 1 + 0 ≡ 4 * k + 1 = omega arith in
     let e1 : 4 * k + 1 + 1 ≡ 4 * k + 2 = omega arith in
     let e2 : 4 * k + 1 + 2 ≡ 4 * k + 3 = omega arith in
     rw (e0, e1, e2)
 
-pub puts-row : (out : List ℕ) (at : ℕ) (b : List ℕ) (k x n1 : ℕ) (l1 : List ℕ) → x ≡ letterOf (numberAt b (4 * k))
-    → PutsText (set (set out at x) (at + 1) 44) (at + 2) (columnLine (numbersAt b (4 * k + 1) 3)) n1 l1 → PutsText out at (rowLine (rowAt b k)) n1 l1
+pub puts_row : (out : List ℕ) (at : ℕ) (b : List ℕ) (k x n1 : ℕ) (l1 : List ℕ) → x ≡ letter_of (number_at b (4 * k))
+    → PutsText (set (set out at x) (at + 1) 44) (at + 2) (column_line (numbers_at b (4 * k + 1) 3)) n1 l1 → PutsText out at (row_line (row_at b k)) n1 l1
 unfolding line
-puts-row out at b k x n1 l1 e p =
-    puts-as out at ((x ∷ 44 ∷ []) ++ columnLine (numbersAt b (4 * k + 1) 3)) (rowLine (rowAt b k)) n1 l1 (rw (row-numbers b k, e))
-    (puts-more out at (x ∷ 44 ∷ []) (columnLine (numbersAt b (4 * k + 1) 3)) (at + 2) (set (set out at x) (at + 1) 44) n1 l1 (puts-two out at x 44) p)
+puts_row out at b k x n1 l1 e p =
+    puts_as out at ((x ∷ 44 ∷ []) ++ column_line (numbers_at b (4 * k + 1) 3)) (row_line (row_at b k)) n1 l1 (rw (row_numbers_lem b k, e))
+    (puts_more out at (x ∷ 44 ∷ []) (column_line (numbers_at b (4 * k + 1) 3)) (at + 2) (set (set out at x) (at + 1) 44) n1 l1 (puts_two out at x 44) p)

@@ -18,8 +18,8 @@ line (f ∷ []) = f ++ 10 ∷ []
 line (f ∷ g ∷ fs) = f ++ 44 ∷ line (g ∷ fs)
 
 -- the letters F S A M X Z C W of the kinds 1 to 8
-unfoldable pub letterOf : ℕ → ℕ
-letterOf k =
+unfoldable pub letter_of : ℕ → ℕ
+letter_of k =
     cond (eqb k 1) 70
     (cond (eqb k 2) 83
     (cond (eqb k 3) 65
@@ -31,20 +31,20 @@ letterOf k =
 
 -- a T file is d, n and columns of numbers; an L file is d, n and rows; a G file, a partner's list (document 02, P3), is laid out as an L file
 pub data File : Type 0 where
-  tableauFile : ℕ → ℕ → List (List ℕ) → File
-  listFile : ℕ → ℕ → List WrittenRow → File
-  partnerFile : ℕ → ℕ → List WrittenRow → File
+  tableau_file : ℕ → ℕ → List (List ℕ) → File
+  list_file : ℕ → ℕ → List WrittenRow → File
+  partner_file : ℕ → ℕ → List WrittenRow → File
 
 -- the header: a letter, then d and n
 abbrev pub header : ℕ → ℕ → ℕ → List ℕ
 header letter d n = line ((letter ∷ []) ∷ digits d ∷ digits n ∷ [])
 
-abbrev pub columnLine : List ℕ → List ℕ
-columnLine xs = line (map digits xs)
+abbrev pub column_line : List ℕ → List ℕ
+column_line xs = line (map digits xs)
 
 -- letter, first, second, power
-abbrev pub rowLine : WrittenRow → List ℕ
-rowLine r = line ((letterOf r.kind ∷ []) ∷ digits r.first ∷ digits r.second ∷ digits r.power ∷ [])
+abbrev pub row_line : WrittenRow → List ℕ
+row_line r = line ((letter_of r.kind ∷ []) ∷ digits r.first ∷ digits r.second ∷ digits r.power ∷ [])
 
 -- the lists that f gives, one after the other
 unfoldable pub concatenated : {A : Type 0} → (A → List ℕ) → List A → List ℕ
@@ -52,14 +52,14 @@ concatenated f [] = []
 concatenated f (x ∷ xs) = f x ++ concatenated f xs
 
 -- T is 84, L is 76, G is 71
-abbrev pub printFile : File → List ℕ
-printFile (tableauFile d n columns) = header 84 d n ++ concatenated columnLine columns
-printFile (listFile d n rows) = header 76 d n ++ concatenated rowLine rows
-printFile (partnerFile d n rows) = header 71 d n ++ concatenated rowLine rows
+abbrev pub print_file : File → List ℕ
+print_file (tableau_file d n columns) = header 84 d n ++ concatenated column_line columns
+print_file (list_file d n rows) = header 76 d n ++ concatenated row_line rows
+print_file (partner_file d n rows) = header 71 d n ++ concatenated row_line rows
 
 -- a refusal: R (82) and its number
-abbrev pub printRefusal : ℕ → List ℕ
-printRefusal k = line ((82 ∷ []) ∷ digits k ∷ [])
+abbrev pub print_refusal : ℕ → List ℕ
+print_refusal k = line ((82 ∷ []) ∷ digits k ∷ [])
 
 -- numbers are at most 65,535, a line has a field, a row's kind is one that has a letter
 unfoldable pub Every : {A : Type 0} → (A → Type 0) → List A → Type 0
@@ -79,9 +79,9 @@ abbrev pub RowFits : WrittenRow → Type 0
 RowFits r = KindFits r.kind × (Fits r.first × (Fits r.second × Fits r.power))
 
 abbrev pub FileFits : File → Type 0
-FileFits (tableauFile d n columns) = (Fits d × Fits n) × Every ColumnFits columns
-FileFits (listFile d n rows) = (Fits d × Fits n) × Every RowFits rows
-FileFits (partnerFile d n rows) = (Fits d × Fits n) × Every RowFits rows
+FileFits (tableau_file d n columns) = (Fits d × Fits n) × Every ColumnFits columns
+FileFits (list_file d n rows) = (Fits d × Fits n) × Every RowFits rows
+FileFits (partner_file d n rows) = (Fits d × Fits n) × Every RowFits rows
 
 abbrev pub LaidOut : List ℕ → File → Type 0
-LaidOut text f = (length text ≤ 65536) × (FileFits f × (text ≡ printFile f))
+LaidOut text f = (length text ≤ 65536) × (FileFits f × (text ≡ print_file f))

@@ -2,4 +2,4 @@
 pub mod Format
 pub mod Partner
 pub mod Convert
-pub mod inner
+pub mod Inner

@@ -3,12 +3,12 @@
 #![tactic(auto)]
 
 ghost use Rattle.std.specs.Prelude.{◌≡◌, true, ◌+◌, ◌*◌, ◌≤◌, length, take};
-ghost use Rattle.arith.specs.Refusals.{refusalNumber, numberOf, orElse, givenOf};
+ghost use Rattle.arith.specs.Refusals.{refusal_number, number_of, or_else, given_of};
 ghost use Rattle.arith.specs.declared.checks.Refusal.TheVariants.{Text};
-ghost use Rattle.text.specs.Format.{listFile, partnerFile, printRefusal};
-ghost use Rattle.text.specs.Convert.{countsOf, Converts, InputFits, ConvertsInput};
-ghost use Rattle.text.specs.inner.Prints.{Prints};
-ghost use Rattle.text.specs.inner.FromBytes.{outcomeOf, RowsConvert, TableauConverts, ColumnsConvert};
+ghost use Rattle.text.specs.Format.{list_file, partner_file, print_refusal};
+ghost use Rattle.text.specs.Convert.{counts_of, Converts, InputFits, ConvertsInput};
+ghost use Rattle.text.specs.Inner.Prints.{Prints};
+ghost use Rattle.text.specs.Inner.FromBytes.{outcome_of, RowsConvert, TableauConverts, ColumnsConvert};
 
 use crate::partner::{partner_check, translate};
 use crate::printing::{print_list, print_refusal, print_tableau};
@@ -34,7 +34,7 @@ pub enum Outcome {
 }
 
 fn outcome_of(number: u16) -> Outcome
-    ensures { result ≡ outcomeOf number }
+    ensures { result ≡ outcome_of number }
 {
     if number == 0 {
         return Outcome::Done;
@@ -45,7 +45,7 @@ fn outcome_of(number: u16) -> Outcome
 // Prints 9, the refusal of a text that holds no file, and returns its length.
 fn print_no_file(out: &mut [u8]) -> usize
     requires { 8 ≤ length out.old }
-    ensures { Prints (printRefusal (refusalNumber Text)) out.old result out.new }
+    ensures { Prints (print_refusal (refusal_number Text)) out.old result out.new }
 {
     print_refusal(refusal_number(Refusal::Text), out)
 }
@@ -53,7 +53,7 @@ fn print_no_file(out: &mut [u8]) -> usize
 // Prints the tableau of a list, or a refusal.
 fn convert_list(d: u16, n: u16, list: &[u8], answer: &mut [u8], out: &mut [u8]) -> usize
     requires { (2112 ≤ length answer.old) × (6350 ≤ length out.old) }
-    ensures { (result ≤ length out.new) × RowsConvert listFile d n list.now (take result out.new) }
+    ensures { (result ≤ length out.new) × RowsConvert list_file d n list.now (take result out.new) }
 {
     let number = tableau::calls::tableau_of(d, n, list, answer);
     let Outcome::Done = outcome_of(number) else {
@@ -65,7 +65,7 @@ fn convert_list(d: u16, n: u16, list: &[u8], answer: &mut [u8], out: &mut [u8]) 
 // Prints the tableau of a partner's list, whose rows are translated in place, or a refusal.
 fn convert_partner(d: u16, n: u16, list: &mut [u8], answer: &mut [u8], out: &mut [u8]) -> usize
     requires { (2112 ≤ length answer.old) × (6350 ≤ length out.old) }
-    ensures { (result ≤ length out.new) × RowsConvert partnerFile d n list.old (take result out.new) }
+    ensures { (result ≤ length out.new) × RowsConvert partner_file d n list.old (take result out.new) }
 {
     let found = partner_check(d, n, list);
     let Check::Good = found else {
@@ -76,9 +76,9 @@ fn convert_partner(d: u16, n: u16, list: &mut [u8], answer: &mut [u8], out: &mut
 }
 
 // 3: the counts of the numbers in the columns, and of the columns.
-#[tactic(auto, unfolding(crate::specs::Convert::countsOf))]
+#[tactic(auto, unfolding(crate::specs::Convert::counts_of))]
 fn counts(n: u16, lines: usize, full: bool) -> Check
-    ensures { numberOf result ≡ countsOf n lines full }
+    ensures { number_of result ≡ counts_of n lines full }
 {
     if full {
         return arith::checks::size(2 * (n as usize), lines);
@@ -88,7 +88,7 @@ fn counts(n: u16, lines: usize, full: bool) -> Check
 
 // 1 and 2, then 3.
 fn columns_check(d: u16, n: u16, lines: usize, full: bool) -> Check
-    ensures { numberOf result ≡ orElse (givenOf d n) (countsOf n lines full) }
+    ensures { number_of result ≡ or_else (given_of d n) (counts_of n lines full) }
 {
     let of_given = arith::checks::given(d, n);
     let Check::Good = of_given else {

@@ -1,20 +1,20 @@
 // A partner's list (document 02, P3): its rows are judged as they are written, and translated in place to document 01's convention.
 ghost use Rattle.std.specs.Prelude.{◌≡◌, true, map, ℕ};
-ghost use Rattle.arith.specs.Refusals.{Dimension, numberOf, rowOf};
-ghost use Rattle.gates.specs.Written.{legalRow, allRows, allLegalRows, listRows};
-ghost use Rattle.gates.specs.inner.View.{viewRow};
-ghost use Rattle.text.specs.Partner.{legalPartner, translated};
-ghost use Rattle.text.specs.inner.FromBytes.{partnerListRefusal};
+ghost use Rattle.arith.specs.Refusals.{Dimension, number_of, row_of};
+ghost use Rattle.gates.specs.Written.{legal_row, all_rows, all_legal_rows, list_rows};
+ghost use Rattle.gates.specs.Inner.View.{view_row};
+ghost use Rattle.text.specs.Partner.{legal_partner, translated};
+ghost use Rattle.text.specs.Inner.FromBytes.{partner_list_refusal};
 
 use arith::checks::{Check, Refusal};
 use gates::Row;
 use gates::lists::read_row;
 
 // Whether a partner may write the row: it is legal, and isn't S.
-#[tactic(auto, unfolding(crate::specs::Partner::legalPartner))]
+#[tactic(auto, unfolding(crate::specs::Partner::legal_partner))]
 fn may_write(row: Row, d: u16, n: usize) -> bool
     requires { Dimension d }
-    ensures { result ≡ legalPartner d n (viewRow row) }
+    ensures { result ≡ legal_partner d n (view_row row) }
 {
     row.legal(d, n) && row.kind != 2
 }
@@ -22,7 +22,7 @@ fn may_write(row: Row, d: u16, n: usize) -> bool
 // 6, row: a row of the list isn't one that a partner may write.
 fn rows_check(list: &[u8], d: u16, n: usize) -> Check
     requires { Dimension d }
-    ensures { numberOf result ≡ rowOf (allRows (legalPartner d n) (listRows list.now)) }
+    ensures { number_of result ≡ row_of (all_rows (legal_partner d n) (list_rows list.now)) }
 {
     let rows = list.len() / 8;
     for r in 0..rows {
@@ -36,7 +36,7 @@ fn rows_check(list: &[u8], d: u16, n: usize) -> Check
 
 // 1, 2, then 3 and 6 of the list.
 pub fn partner_check(d: u16, n: u16, list: &[u8]) -> Check
-    ensures { numberOf result ≡ partnerListRefusal d n list.now }
+    ensures { number_of result ≡ partner_list_refusal d n list.now }
 {
     let of_list = arith::checks::given_list(d, n, list.len());
     let Check::Good = of_list else {
@@ -47,8 +47,8 @@ pub fn partner_check(d: u16, n: u16, list: &[u8]) -> Check
 
 // The row in document 01's convention: a partner's A, M and X are ours undone.
 fn our_row(row: Row, d: u16) -> Row
-    requires { Dimension d × ((n : ℕ) × (legalRow d n (viewRow row) ≡ true)) }
-    ensures { viewRow result ≡ translated d (viewRow row) }
+    requires { Dimension d × ((n : ℕ) × (legal_row d n (view_row row) ≡ true)) }
+    ensures { view_row result ≡ translated d (view_row row) }
 {
     match row.kind {
         3 | 4 | 5 => row.undo(d),
@@ -58,8 +58,8 @@ fn our_row(row: Row, d: u16) -> Row
 
 // Translates the rows of the list in place. Only powers change.
 pub fn translate(list: &mut [u8], d: u16)
-    requires { Dimension d × ((n : ℕ) × (allLegalRows d n (listRows list.old) ≡ true)) }
-    ensures { listRows list.new ≡ map (translated d) (listRows list.old) }
+    requires { Dimension d × ((n : ℕ) × (all_legal_rows d n (list_rows list.old) ≡ true)) }
+    ensures { list_rows list.new ≡ map (translated d) (list_rows list.old) }
 {
     let rows = list.len() / 8;
     for r in 0..rows {

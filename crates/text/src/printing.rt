@@ -1,9 +1,9 @@
 // Printing: a tableau, a list or a refusal as text.
 ghost use Rattle.std.specs.Prelude.{◌≡◌, [], ◌∷◌, ◌++◌, ◌+◌, ◌*◌, ◌≤◌, ◌<◌, length};
-ghost use Rattle.arith.specs.Bytes.{tab, numbersAt};
-ghost use Rattle.gates.specs.Written.{rowAt};
-ghost use Rattle.text.specs.Format.{digits, letterOf, header, columnLine, rowLine, concatenated, printFile, printRefusal};
-ghost use Rattle.text.specs.inner.Prints.{PutsText, Prints, columnsAt, tableauFileOf, listFileOf};
+ghost use Rattle.arith.specs.Bytes.{tab, numbers_at};
+ghost use Rattle.gates.specs.Written.{row_at};
+ghost use Rattle.text.specs.Format.{digits, letter_of, header, column_line, row_line, concatenated, print_file, print_refusal};
+ghost use Rattle.text.specs.Inner.Prints.{PutsText, Prints, columns_at, tableau_file_of, list_file_of};
 
 // Writes the digits of x. Each function here writes from position `at` on and returns the position after what it wrote.
 fn print_number(out: &mut [u8], at: usize, x: u16) -> usize
@@ -43,7 +43,7 @@ fn print_header(out: &mut [u8], letter: u8, d: u16, n: u16) -> usize
 // Writes the m numbers of b from number k on as a line.
 fn print_column(out: &mut [u8], at: usize, b: &[u8], k: usize, m: usize) -> usize
     requires { (0 < m) × ((2 * (k + m) ≤ length b.now) × (at + 6 * m ≤ length out.old)) }
-    ensures { (PutsText out.old at (columnLine (numbersAt b.now k m)) result out.new) × (result ≤ at + 6 * m) }
+    ensures { (PutsText out.old at (column_line (numbers_at b.now k m)) result out.new) × (result ≤ at + 6 * m) }
 {
     let mut next = at;
     let mut i = 0;
@@ -57,7 +57,7 @@ fn print_column(out: &mut [u8], at: usize, b: &[u8], k: usize, m: usize) -> usiz
 // Writes `count` columns of m numbers each.
 fn print_columns(out: &mut [u8], at: usize, b: &[u8], m: usize, count: usize) -> usize
     requires { (0 < m) × ((2 * (count * m) ≤ length b.now) × (at + 6 * (count * m) ≤ length out.old)) }
-    ensures { (PutsText out.old at (concatenated columnLine (columnsAt b.now m count)) result out.new) × (result ≤ at + 6 * (count * m)) }
+    ensures { (PutsText out.old at (concatenated column_line (columns_at b.now m count)) result out.new) × (result ≤ at + 6 * (count * m)) }
 {
     let mut next = at;
     for i in 0..count {
@@ -67,9 +67,9 @@ fn print_columns(out: &mut [u8], at: usize, b: &[u8], m: usize, count: usize) ->
 }
 
 // The letter of a kind; 0 for no kind.
-#[tactic(auto, unfolding(crate::specs::Format::letterOf))]
+#[tactic(auto, unfolding(crate::specs::Format::letter_of))]
 fn letter(kind: u16) -> u8
-    ensures { result ≡ letterOf kind }
+    ensures { result ≡ letter_of kind }
 {
     match kind {
         1 => b'F',
@@ -87,7 +87,7 @@ fn letter(kind: u16) -> u8
 // Writes row k of b: a letter, and then a line of three numbers.
 fn print_row(out: &mut [u8], at: usize, b: &[u8], k: usize) -> usize
     requires { (8 * k + 8 ≤ length b.now) × (at + 20 ≤ length out.old) }
-    ensures { (PutsText out.old at (rowLine (rowAt b.now k)) result out.new) × (result ≤ at + 20) }
+    ensures { (PutsText out.old at (row_line (row_at b.now k)) result out.new) × (result ≤ at + 20) }
 {
     out[at] = letter(arith::numbers::get(b, 4 * k));
     out[at + 1] = b',';
@@ -97,7 +97,7 @@ fn print_row(out: &mut [u8], at: usize, b: &[u8], k: usize) -> usize
 // Writes the first `count` rows of b.
 fn print_rows(out: &mut [u8], at: usize, b: &[u8], count: usize) -> usize
     requires { (8 * count ≤ length b.now) × (at + 20 * count ≤ length out.old) }
-    ensures { (PutsText out.old at (concatenated rowLine (tab (rowAt b.now) count)) result out.new) × (result ≤ at + 20 * count) }
+    ensures { (PutsText out.old at (concatenated row_line (tab (row_at b.now) count)) result out.new) × (result ≤ at + 20 * count) }
 {
     let mut next = at;
     for i in 0..count {
@@ -109,7 +109,7 @@ fn print_rows(out: &mut [u8], at: usize, b: &[u8], count: usize) -> usize
 // Prints a T file from a tableau's bytes and returns its length.
 pub fn print_tableau(d: u16, n: u16, b: &[u8], out: &mut [u8]) -> usize
     requires { (2 * (2 * n * (1 + 2 * n)) ≤ length b.now) × (14 + 6 * (2 * n * (1 + 2 * n)) ≤ length out.old) }
-    ensures { Prints (printFile (tableauFileOf d n b.now)) out.old result out.new }
+    ensures { Prints (print_file (tableau_file_of d n b.now)) out.old result out.new }
 {
     let at = print_header(out, b'T', d, n);
     let count = 2 * (n as usize);
@@ -119,7 +119,7 @@ pub fn print_tableau(d: u16, n: u16, b: &[u8], out: &mut [u8]) -> usize
 // Prints an L file from the first `count` rows of a list's bytes and returns its length.
 pub fn print_list(d: u16, n: u16, b: &[u8], count: usize, out: &mut [u8]) -> usize
     requires { (8 * count ≤ length b.now) × (14 + 20 * count ≤ length out.old) }
-    ensures { Prints (printFile (listFileOf d n b.now count)) out.old result out.new }
+    ensures { Prints (print_file (list_file_of d n b.now count)) out.old result out.new }
 {
     let at = print_header(out, b'L', d, n);
     print_rows(out, at, b, count)
@@ -128,7 +128,7 @@ pub fn print_list(d: u16, n: u16, b: &[u8], count: usize, out: &mut [u8]) -> usi
 // Prints a refusal and returns its length.
 pub fn print_refusal(number: u16, out: &mut [u8]) -> usize
     requires { 8 ≤ length out.old }
-    ensures { Prints (printRefusal number) out.old result out.new }
+    ensures { Prints (print_refusal number) out.old result out.new }
 {
     out[0] = b'R';
     out[1] = b',';

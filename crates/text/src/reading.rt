@@ -1,7 +1,7 @@
 // Reading: the file that a text holds.
 ghost use Rattle.std.specs.Prelude.{◌≡◌, cond, ◌&&◌, ◌+◌, ◌*◌, ◌≤◌, ◌<◌, length, drop};
-ghost use Rattle.text.specs.inner.Scan.{kindOf, letterField, firstDigit, nextDigit, grownOf, inHead, letterDue, afterLine, brokenOf, grow, commaOf, lineOf, endedOf, endedOut, afterByte, outAfterByte, keptOf, openingOf, startOf, scanned, valueOf, Within};
-ghost use Rattle.text.specs.inner.Reads.{wholeOf, answerOf, namedOf, Reads};
+ghost use Rattle.text.specs.Inner.Scan.{kind_of, letter_field, first_digit, next_digit, grown_of, in_head, letter_due, after_line, broken_of, grow, comma_of, line_of, ended_of, ended_out, after_byte, out_after_byte, kept_of, opening_of, start_of, scanned, value_of, Within};
+ghost use Rattle.text.specs.Inner.Reads.{whole_of, answer_of, named_of, Reads};
 
 // The line that is being read.
 #[derive(Clone, Copy)]
@@ -75,9 +75,9 @@ pub enum Reading {
 }
 
 // The kind of a row's letter, or 0.
-#[tactic(auto, unfolding(crate::specs::inner::Scan::kindOf))]
+#[tactic(auto, unfolding(crate::specs::Inner::Scan::kind_of))]
 fn kind(b: u8) -> u16
-    ensures { result ≡ kindOf b }
+    ensures { result ≡ kind_of b }
 {
     match b {
         b'F' => 1,
@@ -93,9 +93,9 @@ fn kind(b: u8) -> u16
 }
 
 // A field that the byte b begins, where a letter is due.
-#[tactic(auto, unfolding(crate::specs::inner::Scan::letterField))]
+#[tactic(auto, unfolding(crate::specs::Inner::Scan::letter_field))]
 fn letter_field(b: u8) -> Field
-    ensures { result ≡ letterField b }
+    ensures { result ≡ letter_field b }
 {
     let k = kind(b);
     if k == 0 {
@@ -105,9 +105,9 @@ fn letter_field(b: u8) -> Field
 }
 
 // A field that the byte b begins, where a number is due.
-#[tactic(auto, unfolding(crate::specs::inner::Scan::firstDigit))]
+#[tactic(auto, unfolding(crate::specs::Inner::Scan::first_digit))]
 fn first_digit(b: u8) -> Field
-    ensures { result ≡ firstDigit b }
+    ensures { result ≡ first_digit b }
 {
     if b < b'0' || b'9' < b {
         return Field::Bad;
@@ -119,9 +119,9 @@ fn first_digit(b: u8) -> Field
 }
 
 // The number v with the byte b after it.
-#[tactic(auto, unfolding(crate::specs::inner::Scan::nextDigit))]
+#[tactic(auto, unfolding(crate::specs::Inner::Scan::next_digit))]
 fn next_digit(v: u16, b: u8) -> Field
-    ensures { result ≡ nextDigit v b }
+    ensures { result ≡ next_digit v b }
 {
     if b < b'0' || b'9' < b {
         return Field::Bad;
@@ -134,7 +134,7 @@ fn next_digit(v: u16, b: u8) -> Field
 }
 
 fn grown(field: Field, due: bool, b: u8) -> Field
-    ensures { result ≡ grownOf field due b }
+    ensures { result ≡ grown_of field due b }
 {
     match field {
         Field::Empty => {
@@ -150,13 +150,13 @@ fn grown(field: Field, due: bool, b: u8) -> Field
 }
 
 fn in_head(form: Form) -> bool
-    ensures { result ≡ inHead form }
+    ensures { result ≡ in_head form }
 {
     matches!(form, Form::TableHead | Form::ListHead)
 }
 
 fn letter_due(form: Form, place: usize) -> bool
-    ensures { result ≡ letterDue form place }
+    ensures { result ≡ letter_due form place }
 {
     matches!(form, Form::GateRow) && place == 0
 }
@@ -172,7 +172,7 @@ fn only_if(right: bool, form: Form) -> Form
 }
 
 fn after_line(form: Form, place: usize) -> Form
-    ensures { result ≡ afterLine form place }
+    ensures { result ≡ after_line form place }
 {
     match form {
         Form::TableHead => only_if(place == 1, Form::Column),
@@ -184,10 +184,10 @@ fn after_line(form: Form, place: usize) -> Form
 }
 
 // A comma after a field that holds x. That a line has too many fields is found at its line feed.
-#[tactic(auto, unfolding(crate::specs::inner::Scan::commaOf))]
+#[tactic(auto, unfolding(crate::specs::Inner::Scan::comma_of))]
 fn comma(s: State, x: u16) -> State
     requires { (s.place < 65536) × (s.count < 65536) }
-    ensures { result ≡ commaOf s x }
+    ensures { result ≡ comma_of s x }
 {
     let next = State {
         place: s.place + 1,
@@ -204,10 +204,10 @@ fn comma(s: State, x: u16) -> State
 }
 
 // A line feed after a field that holds x.
-#[tactic(auto, unfolding(crate::specs::inner::Scan::lineOf))]
+#[tactic(auto, unfolding(crate::specs::Inner::Scan::line_of))]
 fn line_feed(s: State, x: u16) -> State
     requires { (s.lines < 65536) × (s.count < 65536) }
-    ensures { result ≡ lineOf s x }
+    ensures { result ≡ line_of s x }
 {
     let next = State {
         form: after_line(s.form, s.place),
@@ -227,7 +227,7 @@ fn line_feed(s: State, x: u16) -> State
 }
 
 fn held(field: Field) -> Value
-    ensures { result ≡ valueOf field }
+    ensures { result ≡ value_of field }
 {
     match field {
         Field::Empty => Value::Missing,
@@ -238,10 +238,10 @@ fn held(field: Field) -> Value
 }
 
 // Writes x as the next number, unless it belongs to the header.
-#[tactic(auto, unfolding(crate::specs::inner::Scan::keptOf))]
+#[tactic(auto, unfolding(crate::specs::Inner::Scan::kept_of))]
 fn keep(form: Form, count: usize, x: u16, out: &mut [u8])
     requires { 2 * count + 1 < length out.old }
-    ensures { out.new ≡ keptOf form count x out.old }
+    ensures { out.new ≡ kept_of form count x out.old }
 {
     if in_head(form) {
         return;
@@ -250,7 +250,7 @@ fn keep(form: Form, count: usize, x: u16, out: &mut [u8])
 }
 
 fn broken(s: State) -> State
-    ensures { result ≡ brokenOf s }
+    ensures { result ≡ broken_of s }
 {
     State {
         form: Form::Broken,
@@ -272,7 +272,7 @@ fn within(s: State, b: u8) -> State
 // A comma or a line feed, b, ends the field.
 fn ended(s: State, b: u8, i: usize, out: &mut [u8]) -> State
     requires { (Within i s) × ((i < 65536) × (i < length out.old)) }
-    ensures { (result ≡ endedOf s (valueOf s.field) b) × (out.new ≡ endedOut s (valueOf s.field) out.old) }
+    ensures { (result ≡ ended_of s (value_of s.field) b) × (out.new ≡ ended_out s (value_of s.field) out.old) }
 {
     let Value::Is(x) = held(s.field) else {
         return broken(s);
@@ -285,10 +285,10 @@ fn ended(s: State, b: u8, i: usize, out: &mut [u8]) -> State
 }
 
 // Byte i of the text, b.
-#[tactic(auto, unfolding(crate::specs::inner::Scan::afterByte, crate::specs::inner::Scan::outAfterByte))]
+#[tactic(auto, unfolding(crate::specs::Inner::Scan::after_byte, crate::specs::Inner::Scan::out_after_byte))]
 fn after_byte(s: State, b: u8, i: usize, out: &mut [u8]) -> State
     requires { (Within i s) × ((i < 65536) × (i < length out.old)) }
-    ensures { (result ≡ afterByte s b) × (out.new ≡ outAfterByte s b out.old) }
+    ensures { (result ≡ after_byte s b) × (out.new ≡ out_after_byte s b out.old) }
 {
     if b == b',' || b == b'\n' {
         return ended(s, b, i, out);
@@ -299,7 +299,7 @@ fn after_byte(s: State, b: u8, i: usize, out: &mut [u8]) -> State
 // The text from its third byte on.
 fn scan(text: &[u8], form: Form, out: &mut [u8]) -> State
     requires { (2 ≤ length text.now) × ((length text.now ≤ 65536) × (length text.now ≤ length out.old)) }
-    ensures { (result ≡ (scanned (startOf form) out.old (drop 2 text.now)).state) × (out.new ≡ (scanned (startOf form) out.old (drop 2 text.now)).out) }
+    ensures { (result ≡ (scanned (start_of form) out.old (drop 2 text.now)).state) × (out.new ≡ (scanned (start_of form) out.old (drop 2 text.now)).out) }
 {
     let mut s = State {
         form: form,
@@ -320,9 +320,9 @@ fn scan(text: &[u8], form: Form, out: &mut [u8]) -> State
 }
 
 // The first two bytes.
-#[tactic(auto, unfolding(crate::specs::inner::Scan::openingOf))]
+#[tactic(auto, unfolding(crate::specs::Inner::Scan::opening_of))]
 fn opening(a: u8, b: u8) -> Form
-    ensures { result ≡ openingOf a b }
+    ensures { result ≡ opening_of a b }
 {
     if b != b',' {
         return Form::Broken;
@@ -336,7 +336,7 @@ fn opening(a: u8, b: u8) -> Form
 
 // What the text holds, where it ends with no field begun.
 fn whole(s: State) -> Reading
-    ensures { result ≡ wholeOf s }
+    ensures { result ≡ whole_of s }
 {
     if s.place != 0 {
         return Reading::NoFile;
@@ -359,7 +359,7 @@ fn whole(s: State) -> Reading
 
 // What the text holds, from the state at its end.
 fn answer(s: State) -> Reading
-    ensures { result ≡ answerOf s.field s }
+    ensures { result ≡ answer_of s.field s }
 {
     match s.field {
         Field::Empty => whole(s),
@@ -370,9 +370,9 @@ fn answer(s: State) -> Reading
 }
 
 // What the text holds, by its first byte: after G the rows are a partner's.
-#[tactic(auto, unfolding(crate::specs::inner::Reads::namedOf))]
+#[tactic(auto, unfolding(crate::specs::Inner::Reads::named_of))]
 fn named(first: u8, found: Reading) -> Reading
-    ensures { result ≡ namedOf first found }
+    ensures { result ≡ named_of first found }
 {
     if first != b'G' {
         return found;

@@ -8,8 +8,8 @@ use borrow.Rule.Slice.PartMut.{put_mid, post_of}
 use Rattle.convert.proofs.read_input.Goals as goal
 
 -- the front of a list whose middle was replaced by ys, up to place m of ys
-take-more : (a k m : ℕ) (xs ys : List ℕ) → a ≤ length xs → m ≤ length ys → take (a + m) (put_mid a k xs ys) ≡ take a xs ++ take m ys
-take-more a k m xs ys l h =
+take_more : (a k m : ℕ) (xs ys : List ℕ) → a ≤ length xs → m ≤ length ys → take (a + m) (put_mid a k xs ys) ≡ take a xs ++ take m ys
+take_more a k m xs ys l h =
     ap (λ (i : ℕ). take (i + m) (put_mid a k xs ys)) (sym (length-take-le a xs l))
     ∙ take-append-add (take a xs) (ys ++ post_of a k xs) m
     ∙ ap (λ (zs : List ℕ). take a xs ++ zs) (take-append-le m ys (post_of a k xs) h)
@@ -18,6 +18,6 @@ pub loop-done-preserved : goal.loop-done-preserved
 loop-done-preserved g c = record {
   within = omega (arith, c.in-Ok.ensures.bound.0);
   read = subst (Consumes (g.R.Read.remaining c.args.reader.now) (g.R.Read.remaining c.read.new.self))
-      (sym (take-more c.loop-done.done _ c.in-Ok.more c.loop-done.buffer c.read.new.buf c.loop-done.invariant.within c.in-Ok.ensures.bound.0))
+      (sym (take_more c.loop-done.done _ c.in-Ok.more c.loop-done.buffer c.read.new.buf c.loop-done.invariant.within c.in-Ok.ensures.bound.0))
       (Consumes-trans _ _ _ _ _ c.loop-done.invariant.read c.in-Ok.ensures.bytes.0);
 }

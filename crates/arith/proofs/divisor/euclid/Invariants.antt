@@ -7,10 +7,10 @@ use Rattle.arith.proofs.divisor.euclid.Given as goal
 -- what holds at each turn
 pub record Turn (d a x y s t : ℕ) : Type 0 where
   pub divisor : gcd x y ≡ gcd a d
-  pub of-x : Cong d (a * s) x
-  pub of-y : Cong d (a * t) y
-  pub s-below : s < d
-  pub t-below : t < d
+  pub of_x : Cong d (a * s) x
+  pub of_y : Cong d (a * t) y
+  pub s_below : s < d
+  pub t_below : t < d
 
 abbrev pub invariant-loop-x : goal.invariant-loop-x
 invariant-loop-x l = Turn l.d l.fn.a.0 l.x l.y l.s.0 l.t.0

@@ -3,14 +3,14 @@
 use Rattle.std.proofs.Common.{◌≡◌, ℕ, ◌+◌, ◌*◌, ◌-◌, ◌%◌, ◌<◌}
 use mathlib.Core.Bool.{not}
 use lib.Dec.{T}
-use Rattle.arith.proofs.Units.{fitsAt}
+use Rattle.arith.proofs.Units.{fits_at}
 use Rattle.arith.proofs.divisor.search.Given as goal
 
 -- what holds after m and −m were tried
 pub record Tried (d a b m up down : ℕ) : Type 0 where
-  pub up-sum : up ≡ (a + m * b) % d
-  pub down-sum : down ≡ (a + m * (d - b)) % d
-  pub none-before : (j : ℕ) → j < 2 * m + 1 → T (not (fitsAt d a b j))
+  pub up_sum : up ≡ (a + m * b) % d
+  pub down_sum : down ≡ (a + m * (d - b)) % d
+  pub none_before : (j : ℕ) → j < 2 * m + 1 → T (not (fits_at d a b j))
 
 abbrev pub invariant-loop-b : goal.invariant-loop-b
 invariant-loop-b l = Tried l.d l.fn.a.0 l.b.0 l.m l.up.0 l.down.0

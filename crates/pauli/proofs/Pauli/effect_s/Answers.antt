@@ -1,10 +1,10 @@
 -- `pauli::Pauli::effect_s` meets its contract: the effect on the numbers that it touches.
 use Rattle.std.proofs.Common.{sym, ◌∙◌}
-use Rattle.pauli.specs.inner.View.{view}
-use Rattle.pauli.proofs.Numbers.{view-has, placed-one}
+use Rattle.pauli.specs.Inner.View.{view}
+use Rattle.pauli.proofs.Numbers.{view_has, placed_one}
 use Rattle.pauli.proofs.Pauli.effect_s.Goals as goal
 
 pub returns-clause-value : goal.returns-clause-value
 returns-clause-value c n l m =
     let a = c.args in
-    c.placed.ensures.value n l m ∙ sym (placed-one (c.effect_s-t.ensures a.i (view n a.self) (view-has a.self l) (sym (c.touched.ensures n l l))))
+    c.placed.ensures.value n l m ∙ sym (placed_one (c.effect_s-t.ensures a.i (view n a.self) (view_has a.self l) (sym (c.touched.ensures n l l))))

@@ -2,16 +2,16 @@
 use Rattle.std.proofs.Common.{◌≡◌, refl, ◌∙◌, [], ◌∷◌, ℕ, ◌+◌, ◌*◌, ◌%◌, ◌<◌, arith}
 use Rattle.arith.proofs.Cong.{Cong}
 use Rattle.arith.proofs.Ring.{ring₂, quote}
-use Rattle.pauli.proofs.Ranges.{pauli-path}
+use Rattle.pauli.proofs.Ranges.{pauli_path}
 use Rattle.pauli.proofs.Pauli.product.Goals as goal
 
-reduced-sum : (d a b x : ℕ) → 0 < d → Cong (2 * d) ((a + b) % (2 * d) + 2 * x % (2 * d)) (a + b + 2 * x)
-reduced-sum d a b x pos = ring₂ d (a ∷ b ∷ x ∷ []) pos (search quote depth 30) (search quote depth 30) tt
+reduced_sum : (d a b x : ℕ) → 0 < d → Cong (2 * d) ((a + b) % (2 * d) + 2 * x % (2 * d)) (a + b + 2 * x)
+reduced_sum d a b x pos = ring₂ d (a ∷ b ∷ x ∷ []) pos (search quote depth 30) (search quote depth 30) tt
 
-product-phase : (d a b : ℕ) {r p q s x : ℕ} → 0 < d → r ≡ (p + q) % (2 * d) → p ≡ (a + b) % (2 * d) → q ≡ 2 * s % (2 * d) → s ≡ x → r ≡ (a + b + 2 * x) % (2 * d)
-product-phase d a b {x = x} pos e f g h = rw (e, f, g, h) (reduced-sum d a b x pos).same
+product_phase : (d a b : ℕ) {r p q s x : ℕ} → 0 < d → r ≡ (p + q) % (2 * d) → p ≡ (a + b) % (2 * d) → q ≡ 2 * s % (2 * d) → s ≡ x → r ≡ (a + b + 2 * x) % (2 * d)
+product_phase d a b {x = x} pos e f g h = rw (e, f, g, h) (reduced_sum d a b x pos).same
 
 pub returns-clause-value : goal.returns-clause-value
 returns-clause-value c =
     c.summed.ensures.value
-    ∙ pauli-path (product-phase _ _ _ (omega arith) c.plus-phase.ensures c.plus.ensures c.reduced-twist.ensures c.sum_of_products.ensures.0) refl refl
+    ∙ pauli_path (product_phase _ _ _ (omega arith) c.plus-phase.ensures c.plus.ensures c.reduced-twist.ensures c.sum_of_products.ensures.0) refl refl

@@ -1,17 +1,17 @@
--- `pauli::Pauli::summed` meets its contract: one more entry of each is filled in each step (`filled-more`).
+-- `pauli::Pauli::summed` meets its contract: one more entry of each is filled in each step (`filled_more`).
 use Rattle.std.proofs.Common.{◌≡◌, refl, sym, ◌∙◌, arith}
-use Rattle.pauli.proofs.Entries.{filled-none, filled-more, plus-tab}
-use Rattle.pauli.proofs.Ranges.{pauli-path}
+use Rattle.pauli.proofs.Entries.{filled_none, filled_more, plus_tab}
+use Rattle.pauli.proofs.Ranges.{pauli_path}
 use Rattle.pauli.proofs.Pauli.summed.Goals as goal
 
 pub loop-i-init : goal.loop-i-init
-loop-i-init c = filled-none _ _ refl refl
+loop-i-init c = filled_none _ _ refl refl
 
 pub loop-i-preserved : goal.loop-i-preserved
-loop-i-preserved c = filled-more _ _ c.loop-i.i _ _ (omega arith) c.plus-xs.ensures c.plus-zt.ensures c.with_next-sum_word.ensures c.loop-i.invariant
+loop-i-preserved c = filled_more _ _ c.loop-i.i _ _ (omega arith) c.plus-xs.ensures c.plus-zt.ensures c.with_next-sum_word.ensures c.loop-i.invariant
 
 pub returns-clause-value : goal.returns-clause-value
 returns-clause-value c =
     let e : c.loop-i.i ≡ c.args.n = omega arith in
     let h = rw e at c.loop-i.invariant in
-    pauli-path refl (h.v-filled ∙ sym (plus-tab _ _ _ _)) (h.w-filled ∙ sym (plus-tab _ _ _ _))
+    pauli_path refl (h.v_filled ∙ sym (plus_tab _ _ _ _)) (h.w_filled ∙ sym (plus_tab _ _ _ _))

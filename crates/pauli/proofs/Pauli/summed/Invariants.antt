@@ -1,6 +1,6 @@
 -- The entries filled are the sums, and the word is theirs (`Filled`).
 use Rattle.std.proofs.Common.{◌+◌, ◌%◌}
-use Rattle.pauli.specs.inner.View.{at}
+use Rattle.pauli.specs.Inner.View.{at}
 use Rattle.pauli.proofs.Entries.{Filled}
 use Rattle.pauli.proofs.Pauli.summed.Given as goal
 

@@ -1,7 +1,7 @@
 -- The entries before i are filled.
 use Rattle.std.proofs.Common.{◌≡◌, ◌+◌, get_or, length}
 use Rattle.arith.specs.Bytes.{tab}
-use Rattle.pauli.specs.inner.View.{entries}
+use Rattle.pauli.specs.Inner.View.{entries}
 use Rattle.pauli.proofs.arrays.entries_from.Given as goal
 
 abbrev pub invariant-loop-i : goal.invariant-loop-i

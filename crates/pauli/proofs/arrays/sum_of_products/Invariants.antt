@@ -1,7 +1,7 @@
 -- The sum is the dot product of the entries passed, below 2³² for each.
 use Rattle.std.proofs.Common.{◌≡◌, ◌*◌, ◌≤◌}
 use Rattle.pauli.specs.Pauli.{dot}
-use Rattle.pauli.specs.inner.View.{entries}
+use Rattle.pauli.specs.Inner.View.{entries}
 use Rattle.pauli.proofs.arrays.sum_of_products.Given as goal
 
 abbrev pub invariant-loop-i : goal.invariant-loop-i

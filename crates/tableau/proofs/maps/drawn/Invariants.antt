@@ -2,18 +2,18 @@
 use Rattle.std.proofs.Common.{ℕ, ◌+◌, ◌%◌, List}
 use Rattle.arith.specs.Residues.{neg}
 use Rattle.pauli.specs.Pauli.{Pauli, comm}
-use Rattle.pauli.specs.inner.View.{view}
+use Rattle.pauli.specs.Inner.View.{view}
 use Rattle.pauli.proofs.Entries.{Filled}
 use Rattle.tableau.specs.Tableau.{column}
-use Rattle.tableau.specs.inner.View.{tableView}
+use Rattle.tableau.specs.Inner.View.{table_view}
 use Rattle.tableau.proofs.maps.drawn.Given as goal
 
 -- entry i of v, and of w
-abbrev pub drawn-v : ℕ → ℕ → List Pauli → Pauli → ℕ → ℕ
-drawn-v d n t q i = neg d (comm d q (column n t (n + i))) % d
+abbrev pub drawn_v : ℕ → ℕ → List Pauli → Pauli → ℕ → ℕ
+drawn_v d n t q i = neg d (comm d q (column n t (n + i))) % d
 
-abbrev pub drawn-w : ℕ → ℕ → List Pauli → Pauli → ℕ → ℕ
-drawn-w d n t q i = comm d q (column n t i)
+abbrev pub drawn_w : ℕ → ℕ → List Pauli → Pauli → ℕ → ℕ
+drawn_w d n t q i = comm d q (column n t i)
 
 abbrev pub invariant-loop-i : goal.invariant-loop-i
-invariant-loop-i l = Filled (drawn-v l.d l.n (tableView l.n l.t) (view l.n l.q)) (drawn-w l.d l.n (tableView l.n l.t) (view l.n l.q)) l.i l.v l.w l.word
+invariant-loop-i l = Filled (drawn_v l.d l.n (table_view l.n l.t) (view l.n l.q)) (drawn_w l.d l.n (table_view l.n l.t) (view l.n l.q)) l.i l.v l.w l.word

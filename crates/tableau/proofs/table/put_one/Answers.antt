@@ -1,30 +1,30 @@
 -- `tableau::table::put_one` meets its contract: what the row makes of the numbers that it touches (`Acts`) is put in their place.
 use Rattle.std.proofs.Common.{refl, arith}
-use Rattle.gates.specs.inner.View.{viewRow}
-use Rattle.gates.proofs.Written.{legal-first}
-use Rattle.gates.proofs.Acts.{other-is}
-use Rattle.tableau.proofs.Changing.{row-qudits, row-behind}
+use Rattle.gates.specs.Inner.View.{view_row}
+use Rattle.gates.proofs.Written.{legal_first}
+use Rattle.gates.proofs.Acts.{other_is}
+use Rattle.tableau.proofs.Changing.{row_qudits, row_behind}
 use Rattle.tableau.proofs.table.put_one.Goals as goal
 
 pub overflow_sub-i : goal.overflow_sub-i
-overflow_sub-i c = (legal-first _ _ _ c.requires.legal.0).0
+overflow_sub-i c = (legal_first _ _ _ c.requires.legal.0).0
 
 pub touched-requires : goal.touched-requires
 touched-requires c =
-    let w = viewRow c.args.row.row in
-    let q = row-qudits c.args.d c.args.n w c.requires.legal.0 (other-is w w.kind refl c.requires.kind.0) in
+    let w = view_row c.args.row.row in
+    let q = row_qudits c.args.d c.args.n w c.requires.legal.0 (other_is w w.kind refl c.requires.kind.0) in
     omega (arith, q)
 
 pub replace-requires-clause-places : goal.replace-requires-clause-places
 replace-requires-clause-places c =
-    let w = viewRow c.args.row.row in
-    let q = row-qudits c.args.d c.args.n w c.requires.legal.0 (other-is w w.kind refl c.requires.kind.0) in
+    let w = view_row c.args.row.row in
+    let q = row_qudits c.args.d c.args.n w c.requires.legal.0 (other_is w w.kind refl c.requires.kind.0) in
     omega (arith, q)
 
 pub returns : goal.returns
 returns c =
     let a = c.args in
-    let w = viewRow a.row.row in
-    let e = other-is w w.kind refl c.requires.kind.0 in
-    let q = row-qudits a.d a.n w c.requires.legal.0 e in
-    (row-behind a.d a.n w c.requires.legal.0 e a.c.now c.act_one.ensures (c.touched.ensures a.n q.0 q.1) (c.replace.ensures.0 a.n q.0 q.1 c.requires.dimension.1), c.replace.ensures.1)
+    let w = view_row a.row.row in
+    let e = other_is w w.kind refl c.requires.kind.0 in
+    let q = row_qudits a.d a.n w c.requires.legal.0 e in
+    (row_behind a.d a.n w c.requires.legal.0 e a.c.now c.act_one.ensures (c.touched.ensures a.n q.0 q.1) (c.replace.ensures.0 a.n q.0 q.1 c.requires.dimension.1), c.replace.ensures.1)

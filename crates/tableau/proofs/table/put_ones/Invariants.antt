@@ -2,12 +2,12 @@
 use Rattle.std.proofs.Common.{◌*◌, ◌-◌}
 use Rattle.gates.specs.Row.{apply}
 use Rattle.gates.specs.Written.{meant}
-use Rattle.gates.specs.inner.View.{viewRow}
+use Rattle.gates.specs.Inner.View.{view_row}
 use Rattle.tableau.proofs.Changing.{Going}
 use Rattle.tableau.proofs.table.put_ones.Given as goal
 
 abbrev pub invariant-loop-rest : goal.invariant-loop-rest
-invariant-loop-rest l = Going l.d l.n l.i l.i (apply l.d (meant (viewRow l.row.row))) l.fn.t l.rest l.at l.t
+invariant-loop-rest l = Going l.d l.n l.i l.i (apply l.d (meant (view_row l.row.row))) l.fn.t l.rest l.at l.t
 
 abbrev pub decreases-loop-rest : goal.decreases-loop-rest
 decreases-loop-rest l = 2 * l.n - l.at

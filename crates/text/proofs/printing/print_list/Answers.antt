@@ -1,7 +1,7 @@
 -- `text::printing::print_list` meets its contract. The header, and the rows after it.
 use Rattle.std.proofs.Common.{arith}
-use Rattle.text.proofs.Writing.{puts-more, puts-front}
+use Rattle.text.proofs.Writing.{puts_more, puts_front}
 use Rattle.text.proofs.printing.print_list.Goals as goal
 
 pub returns : goal.returns
-returns c = puts-front _ _ _ _ (omega arith) (puts-more _ _ _ _ _ _ _ _ c.print_header-at.ensures.0 c.print_rows.ensures.0)
+returns c = puts_front _ _ _ _ (omega arith) (puts_more _ _ _ _ _ _ _ _ c.print_header-at.ensures.0 c.print_rows.ensures.0)

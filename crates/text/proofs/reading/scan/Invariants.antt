@@ -1,6 +1,6 @@
 -- `text::reading::scan`'s loop. The invariant: the scan of the whole text is the scan of what is left, from the state and the buffer as they are.
 use Rattle.std.proofs.Common.{◌≡◌, ◌≤◌, ◌-◌, length, drop}
-use Rattle.text.specs.inner.Scan.{Within, scanned}
+use Rattle.text.specs.Inner.Scan.{Within, scanned}
 use Rattle.text.proofs.reading.scan.Given as goal
 
 abbrev pub invariant-loop-i : goal.invariant-loop-i

@@ -2,14 +2,14 @@
 -- so that code with another sign fails by what it promises.
 use Rattle.std.proofs.Common.{rules, ◌+◌, ◌*◌, ◌%◌, ◌∙◌}
 use Rattle.arith.specs.Residues.{neg}
-use Rattle.pauli.proofs.Change.{x-phase}
-use Rattle.pauli.proofs.Numbers.{puts-f}
+use Rattle.pauli.proofs.Change.{x_phase}
+use Rattle.pauli.proofs.Numbers.{puts_f}
 use Rattle.pauli.proofs.touched.Touched.fourier.Goals as goal
 
 pub returns : goal.returns
 returns c i p a e =
     let d = c.args.d in
     let lowered = (c.args.self.phase.0 + neg (2 * d) c.doubled-moved.result.0) % (2 * d) in
-    rw c.on_one.ensures (puts-f d a e
-    (◌∙◌ {b = lowered} (search rules) (rw (c.doubled-moved.ensures, c.times.ensures) (x-phase d c.args.self.vi.0 c.requires.d-low _ _).same))
+    rw c.on_one.ensures (puts_f d a e
+    (◌∙◌ {b = lowered} (search rules) (rw (c.doubled-moved.ensures, c.times.ensures) (x_phase d c.args.self.vi.0 c.requires.d_low _ _).same))
     c.negative.ensures)

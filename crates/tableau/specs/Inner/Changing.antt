@@ -1,7 +1,7 @@
 -- Which columns a row on the qudits i and j changes.
 use Rattle.std.specs.Prelude.{cond, List, map, ℕ}
 use Rattle.pauli.specs.Pauli.{Pauli}
-use Rattle.pauli.specs.inner.Touched.{touched, still}
+use Rattle.pauli.specs.Inner.Touched.{touched, still}
 
 -- 0 for a column that no row on them changes, 1 for any other
 abbrev pub changes : ℕ → ℕ → ℕ → Pauli → ℕ

@@ -11,8 +11,8 @@ pub record Touched : Type 0 where
   pub wj : ℕ
 
 -- what the code's numbers stand for
-abbrev pub viewTouched : Code → Touched
-viewTouched t = record { phase = t.phase.0; vi = t.vi.0; wi = t.wi.0; vj = t.vj.0; wj = t.wj.0 }
+abbrev pub view_touched : Code → Touched
+view_touched t = record { phase = t.phase.0; vi = t.vi.0; wi = t.wi.0; vj = t.vj.0; wj = t.wj.0 }
 
 -- those of a Pauli
 abbrev pub touched : ℕ → ℕ → Pauli → Touched
@@ -32,8 +32,8 @@ replaced i j t p = placed j t.phase t.vj t.wj (placed i t.phase t.vi t.wi p)
 
 -- qudit i is one of the Pauli's
 pub record Has (i : ℕ) (p : Pauli) : Type 0 where
-  pub in-v : i < length p.v
-  pub in-w : i < length p.w
+  pub in_v : i < length p.v
+  pub in_w : i < length p.w
 
 -- q is p with these numbers in their place, and they are the ones it has there
 pub record Puts (i j : ℕ) (new : Touched) (p q : Pauli) : Type 0 where

@@ -4,8 +4,8 @@ use Rattle.arith.specs.Bytes.{tab}
 use Rattle.pauli.specs.Pauli.{Pauli}
 
 -- what the phase h and the sums s stand for
-unfoldable pub sumsView : ℕ → ℕ → ℕ → List ℕ → Pauli
-sumsView d n h s = record { phase = h; v = tab (λ i. get_or s i 0 % d) n; w = tab (λ i. get_or s (16 + i) 0 % d) n }
+unfoldable pub sums_view : ℕ → ℕ → ℕ → List ℕ → Pauli
+sums_view d n h s = record { phase = h; v = tab (λ i. get_or s i 0 % d) n; w = tab (λ i. get_or s (16 + i) 0 % d) n }
 
 -- a column whose entries are at most 1,023, as they are at every dimension
 abbrev pub Small : ℕ → List ℕ → Type 0
@@ -18,7 +18,7 @@ pub record Summed (m : ℕ) (s : List ℕ) : Type 0 where
 
 -- k times the entries of the column c are added, and no sum grows by more than 65,535·1,023
 pub record Added (k n : ℕ) (c old new : List ℕ) : Type 0 where
-  pub v-added : (i : ℕ) → i < n → get_or new i 0 ≡ get_or old i 0 + k * get_or c (1 + i) 0
-  pub w-added : (i : ℕ) → i < n → get_or new (16 + i) 0 ≡ get_or old (16 + i) 0 + k * get_or c (17 + i) 0
+  pub v_added : (i : ℕ) → i < n → get_or new i 0 ≡ get_or old i 0 + k * get_or c (1 + i) 0
+  pub w_added : (i : ℕ) → i < n → get_or new (16 + i) 0 ≡ get_or old (16 + i) 0 + k * get_or c (17 + i) 0
   pub places : length new ≡ 32
   pub grown : (i : ℕ) → get_or new i 0 ≤ get_or old i 0 + 67042305

@@ -1,9 +1,9 @@
 -- What the printer writes.
 use Rattle.std.specs.Prelude.{◌≡◌, List, ℕ, ◌+◌, ◌*◌, length}
 use Rattle.std.proofs.lemmas.List.Edits.{sets}
-use Rattle.arith.specs.Bytes.{tab, numbersAt, front}
-use Rattle.gates.specs.Written.{rowAt}
-use Rattle.text.specs.Format.{File, tableauFile, listFile}
+use Rattle.arith.specs.Bytes.{tab, numbers_at, front}
+use Rattle.gates.specs.Written.{row_at}
+use Rattle.text.specs.Format.{File, tableau_file, list_file}
 
 -- `text` is written from position `at` of `out` on, and `next` is the position after it
 pub record PutsText (out : List ℕ) (at : ℕ) (text : List ℕ) (next : ℕ) (after : List ℕ) : Type 0 where
@@ -16,12 +16,12 @@ pub record Prints (text old : List ℕ) (r : ℕ) (new : List ℕ) : Type 0 wher
   pub fronts : new ≡ front text old
 
 -- `count` columns of m numbers each; a tableau's 2n columns of 1 + 2n numbers
-abbrev pub columnsAt : List ℕ → ℕ → ℕ → List (List ℕ)
-columnsAt b m count = tab (λ i. numbersAt b (i * m) m) count
+abbrev pub columns_at : List ℕ → ℕ → ℕ → List (List ℕ)
+columns_at b m count = tab (λ i. numbers_at b (i * m) m) count
 
-abbrev pub tableauFileOf : ℕ → ℕ → List ℕ → File
-tableauFileOf d n b = tableauFile d n (columnsAt b (1 + 2 * n) (2 * n))
+abbrev pub tableau_file_of : ℕ → ℕ → List ℕ → File
+tableau_file_of d n b = tableau_file d n (columns_at b (1 + 2 * n) (2 * n))
 
 -- the first `count` rows
-abbrev pub listFileOf : ℕ → ℕ → List ℕ → ℕ → File
-listFileOf d n b count = listFile d n (tab (rowAt b) count)
+abbrev pub list_file_of : ℕ → ℕ → List ℕ → ℕ → File
+list_file_of d n b count = list_file d n (tab (row_at b) count)

@@ -4,11 +4,11 @@ use Rattle.std.specs.Prelude.{◌≡◌, List, [], ℕ, ◌+◌, ◌*◌, ◌<�
 use Rattle.arith.specs.Bytes.{tab}
 use Rattle.pauli.specs.Pauli.{Pauli}
 
-unfoldable pub columnView : ℕ → List ℕ → Pauli
-columnView n c = record { phase = get_or c 0 0; v = tab (λ i. get_or c (1 + i) 0) n; w = tab (λ i. get_or c (17 + i) 0) n }
+unfoldable pub column_view : ℕ → List ℕ → Pauli
+column_view n c = record { phase = get_or c 0 0; v = tab (λ i. get_or c (1 + i) 0) n; w = tab (λ i. get_or c (17 + i) 0) n }
 
-unfoldable pub tableView : ℕ → List (List ℕ) → List Pauli
-tableView n t = tab (λ j. columnView n (get_or t j [])) (2 * n)
+unfoldable pub table_view : ℕ → List (List ℕ) → List Pauli
+table_view n t = tab (λ j. column_view n (get_or t j [])) (2 * n)
 
 -- as long as its type says: what nothing else tells of an array behind a reference
 pub record Shaped (t : List (List ℕ)) : Type 0 where

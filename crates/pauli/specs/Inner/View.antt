@@ -3,7 +3,7 @@ use Rattle.std.specs.Prelude.{◌≡◌, List, ℕ, get_or}
 use Rattle.arith.specs.Bytes.{tab}
 use Rattle.arith.specs.declared.residue.Residue.{Residue}
 use Rattle.pauli.specs.Pauli.{Pauli}
-use Rattle.pauli.specs.Support.{supportOf}
+use Rattle.pauli.specs.Support.{support_of}
 use Rattle.pauli.specs.declared.Pauli.{Pauli as Code}
 
 -- the i-th number of an array
@@ -19,4 +19,4 @@ view n p = record { phase = p.phase.0; v = entries n p.v; w = entries n p.w }
 
 -- the support word that the code keeps is that of its first n entries
 abbrev pub WordTrue : ℕ → Code → Type 0
-WordTrue n p = p.support ≡ supportOf (view n p)
+WordTrue n p = p.support ≡ support_of (view n p)
