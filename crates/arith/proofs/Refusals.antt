@@ -58,6 +58,10 @@ stop (suc x) y e g = stop_last (suc x) e g
 pub stops_some : {r : Check} {z : ℕ} → Stops r z → z ≢ 0
 stops_some {z = z} s e = let o : ◌≡◌ {A = ℕ} 0 1 = s.value 1 ∙ ap (λ (x : ℕ). unless x 1) e in omega arith
 
+-- what a refused call promises
+pub stop_answered : {r : Check} {z : ℕ} {a : Answer} (v : ℕ) → Stops r z → (a.number ≡ number_of r) × (a.value ≡ 0) → Answered z v a
+stop_answered v s e = record { number = e.0 ∙ s.same; value = e.1 ∙ s.value v }
+
 pub stop_written : {r : Check} {z x : ℕ} (answer old : List ℕ) → Stops r z → x ≡ number_of r → Written z answer old old x
 stop_written answer old s e = record { number = e ∙ s.same; out = s.out old (front answer old) }
 

@@ -134,7 +134,7 @@ pub fn whole(one: usize, most: usize, have: usize) -> Check
 
 // A list: whole rows of 8 bytes, at most 4,096 of them.
 #[tactic(auto, unfolding(crate::specs::Refusals::list_size_of))]
-fn list_size(have: usize) -> Check
+pub fn list_size(have: usize) -> Check
     ensures { number_of result ≡ list_size_of have }
 {
     whole(8, 4096, have)

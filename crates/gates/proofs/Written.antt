@@ -18,6 +18,13 @@ use Rattle.arith.proofs.Refusals.{both_held}
 use Rattle.gates.specs.Row.{Row, F, S, A, M, X, Z, C, W, OneQudit, TwoQudits, Legal, AllLegal, none, more, undo}
 use Rattle.gates.specs.Written.{WrittenRow, with_power, on_one, on_two, written, row_of_kind, meant, between, highest, legal_power, takes_two, legal_second, legal_row, all_rows, all_legal_rows, row_at, list_rows, rows_of, row_numbers, list_numbers, encode_rows}
 
+-- ---- two tests in a row: the second decides, or the first fails
+pub second_decides : {a b r : Bool} → a ≡ true → r ≡ b → r ≡ (a && b)
+second_decides e f = rw e f
+
+pub first_fails : {a : Bool} (b : Bool) → a ≡ false → false ≡ (a && b)
+first_fails b e = rw e
+
 -- ---- the kinds
 pub data Kind : ℕ → Type 0 where
   kind_f : Kind 1
@@ -40,6 +47,22 @@ known d (suc (suc (suc (suc (suc (suc zero)))))) h = kind_z
 known d (suc (suc (suc (suc (suc (suc (suc zero))))))) h = kind_c
 known d (suc (suc (suc (suc (suc (suc (suc (suc zero)))))))) h = kind_w
 known d (suc (suc (suc (suc (suc (suc (suc (suc (suc kind))))))))) h = absurd (not-suc-le-zero h)
+
+-- any other number is no kind: what the last arm of a match on all of them tells
+abbrev pub NoKind : ℕ → Type 0
+NoKind kind = (((((((Unit {0} × (kind ≢ 1)) × (kind ≢ 2)) × (kind ≢ 3)) × (kind ≢ 4)) × (kind ≢ 5)) × (kind ≢ 6)) × (kind ≢ 7)) × (kind ≢ 8)
+
+pub no_kind : (d kind : ℕ) → NoKind kind → highest d kind ≡ 0
+no_kind d zero z = refl
+no_kind d (suc zero) z = absurd (z.0.0.0.0.0.0.0.1 refl)
+no_kind d (suc (suc zero)) z = absurd (z.0.0.0.0.0.0.1 refl)
+no_kind d (suc (suc (suc zero))) z = absurd (z.0.0.0.0.0.1 refl)
+no_kind d (suc (suc (suc (suc zero)))) z = absurd (z.0.0.0.0.1 refl)
+no_kind d (suc (suc (suc (suc (suc zero))))) z = absurd (z.0.0.0.1 refl)
+no_kind d (suc (suc (suc (suc (suc (suc zero)))))) z = absurd (z.0.0.1 refl)
+no_kind d (suc (suc (suc (suc (suc (suc (suc zero))))))) z = absurd (z.0.1 refl)
+no_kind d (suc (suc (suc (suc (suc (suc (suc (suc zero)))))))) z = absurd (z.1 refl)
+no_kind d (suc (suc (suc (suc (suc (suc (suc (suc (suc kind))))))))) z = refl
 
 kind_bounds : {kind : ℕ} → Kind kind → (1 ≤ kind) × (kind ≤ 8)
 kind_bounds kind_f = omega arith
@@ -136,6 +159,9 @@ module _ (d n : ℕ) (w : WrittenRow) (legal : legal_row d n w ≡ true) where
   pub legal_sort : Kind w.kind
   legal_sort = (tests d n w legal).sort
 
+  pub legal_kind : highest d w.kind ≡ 0 → ⊥
+  legal_kind e = let t = tests d n w legal in omega arith
+
 -- ---- a row whose tests hold means a legal row
 powered : {d n kind i j k : ℕ} → Tests d n kind i j k → OneQudit n (i - 1) 1 k (highest d kind)
 powered t = record { qudit = omega arith; power_low = t.power_low; power_high = t.power_high }
@@ -181,6 +207,18 @@ meant_written {n = n} {i = i} {j = j} {k = k} kind_w t = let one : 1 ≡ k = ome
 pub written_meant : (d n : ℕ) (w : WrittenRow) → legal_row d n w ≡ true → written (meant w) ≡ w
 unfolding meant
 written_meant d n w e = let t = tests d n w e in meant_written t.sort t
+
+pub highest_small : (d kind : ℕ) → highest d kind ≤ 2 * d + 3
+highest_small d zero = omega arith
+highest_small d (suc zero) = omega arith
+highest_small d (suc (suc zero)) = omega arith
+highest_small d (suc (suc (suc zero))) = omega arith
+highest_small d (suc (suc (suc (suc zero)))) = omega arith
+highest_small d (suc (suc (suc (suc (suc zero))))) = omega arith
+highest_small d (suc (suc (suc (suc (suc (suc zero)))))) = omega arith
+highest_small d (suc (suc (suc (suc (suc (suc (suc zero))))))) = omega arith
+highest_small d (suc (suc (suc (suc (suc (suc (suc (suc zero)))))))) = omega arith
+highest_small d (suc (suc (suc (suc (suc (suc (suc (suc (suc kind))))))))) = omega arith
 
 -- ---- the row that undoes it, by the power
 

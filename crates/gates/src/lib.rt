@@ -175,6 +175,27 @@ impl Row {
 
 // What a row makes of the numbers that it touches: a method for the kinds on one qudit and one for those on two, each for a loop over columns of its own.
 impl Ready {
+    // What the row makes of the numbers that it touches.
+    pub fn act(self, t: Touched, d: u16) -> Touched
+        requires { Dimension d × InverseRight d self }
+        ensures { (n : ℕ) → legal_row d n (view_row self.row) ≡ true → Acts d (view_row self.row) (view_touched t) (view_touched result) }
+    {
+        let row = self.row;
+        let kind = row.kind;
+        let k = Power(row.power);
+        match kind {
+            1 => t.effect_f(k, d),
+            2 => t.effect_s(k, d),
+            3 => t.effect_a(k, d),
+            4 => t.effect_m(k, self.inverse, d),
+            5 => t.effect_x(k, d),
+            6 => t.effect_z(k, d),
+            7 => t.effect_c(k, d),
+            8 => t.effect_w(),
+            _ => t,
+        }
+    }
+
     // A kind on one qudit: F, S, M, X or Z.
     pub fn act_one(self, t: Touched, d: u16) -> Touched
         requires dimension { Dimension d × InverseRight d self }

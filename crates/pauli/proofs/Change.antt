@@ -18,8 +18,12 @@ module _ (d k : ℕ) (large : 2 ≤ d) where
   pub x_phase : (δ x : ℕ) → Cong (2 * d) (δ + neg (2 * d) (2 * (k * x % d) % (2 * d))) (δ + neg (2 * d) (2 * (k * x)))
   x_phase δ x = ring₂ d (k ∷ δ ∷ x ∷ []) pos (search quote depth 30) (search quote depth 30) tt
 
-  pub s_phase : (δ x : ℕ) → Cong (2 * d) (δ + k * (x * (x + d)) % (2 * d)) (δ + k * (x * (x + d)))
+  -- with x·(x + d) reduced before it is taken k times, and k times x·(x + d) reduced once
+  pub s_phase : (δ x : ℕ) → Cong (2 * d) (δ + k * (x * (x + d) % (2 * d)) % (2 * d)) (δ + k * (x * (x + d)))
   s_phase δ x = ring₂ d (k ∷ δ ∷ x ∷ []) pos (search quote depth 30) (search quote depth 30) tt
+
+  pub s_phase_once : (δ x : ℕ) → Cong (2 * d) (δ + k * (x * (x + d)) % (2 * d)) (δ + k * (x * (x + d)))
+  s_phase_once δ x = ring₂ d (k ∷ δ ∷ x ∷ []) pos (search quote depth 30) (search quote depth 30) tt
 
   pub c_phase : (δ x y : ℕ) → Cong (2 * d) (δ + 2 * ((k * x % d) * y % d) % (2 * d)) (δ + 2 * (k * (x * y)))
   c_phase δ x y = ring₂ d (k ∷ δ ∷ x ∷ y ∷ []) pos (search quote depth 30) (search quote depth 30) tt

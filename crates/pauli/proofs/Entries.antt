@@ -1,7 +1,7 @@
 -- The first n entries of the code's arrays, as tables: one law for each kind of loop over them. Assumes nothing.
 use mathlib.Core.Path.{◌≡◌, refl, sym, ap, ap₂, ◌∙◌}
 use mathlib.Core.List.{List, ◌∷◌, ◌++◌, []}
-use Prim.Native.Nat.{ℕ, zero, suc, ◌+◌, ◌*◌, ◌%◌, ◌<◌}
+use Prim.Native.Nat.{ℕ, zero, suc, ◌+◌, ◌*◌, ◌%◌, ◌<◌, ◌≤◌}
 use native.Mathlib.Numerals.{add-one}
 use native.Mathlib.Omega.{arith}
 use lib.ListN.{length, get_or, set, replicate, length-set, length-replicate}
@@ -17,6 +17,7 @@ use Rattle.pauli.specs.Inner.Words.{Joins}
 use Rattle.pauli.proofs.Sums.{scaled}
 use Rattle.pauli.proofs.Lists.{cons_path}
 use Rattle.pauli.proofs.Marks.{word_none, word_next}
+use native.Mathlib.Nat.{mul-le-mul}
 
 -- ---- an entry read, and one set
 pub entry : {n i : ℕ} (xs : List Residue) → i < n → get_or (entries n xs) i 0 ≡ at xs i
@@ -55,6 +56,10 @@ filled_more f g i {v} {w} x z l e k m h = record {
   w_filled = fill_more g w i z (omega (arith, h.w_places)) k h.w_filled;
   word_made = word_next f g i x.0 z.0 e k h.word_made m;
 }
+
+-- the word is that of the arrays
+pub filled_word : {f g : ℕ → ℕ} {i word : ℕ} {v w : List Residue} → Filled f g i v w word → word ≡ word_of (marks (entries i v) (entries i w))
+filled_word h = h.word_made ∙ ap word_of (sym (ap₂ marks h.v_filled h.w_filled))
 
 -- one entry set, of the array and of the list that it stands for
 pub entries_set : (n : ℕ) (xs : List Residue) (i : ℕ) (x : Residue) → i < length xs → entries n (set xs i x) ≡ set (entries n xs) i x.0
@@ -110,3 +115,7 @@ pub scaled_tab : (d k : ℕ) (f : ℕ → ℕ) (n : ℕ) → scaled d k (tab f n
 unfolding tab
 scaled_tab d k f zero = refl
 scaled_tab d k f (suc n) = cons_path refl (scaled_tab d k (λ i. f (suc i)) n)
+
+-- ---- the product of two 16-bit numbers
+pub product_below : (a b : ℕ) → a < 65536 → b < 65536 → a * b < 4294967296
+product_below a b ha hb = let h : a ≤ 65535 = omega arith in let k : b ≤ 65535 = omega arith in omega (arith, mul-le-mul h k)

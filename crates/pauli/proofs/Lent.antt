@@ -2,13 +2,23 @@
 -- what the call's refusal is where the check refuses and past the check, and what holds of the bytes then. Assumes nothing.
 use mathlib.Core.Path.{◌≡◌, sym, ap, ◌∙◌}
 use Prim.Native.Nat.{ℕ, ◌≤◌}
-use Rattle.arith.specs.Refusals.{or_else, given_of, size_of, room_of}
-use Rattle.arith.proofs.Refusals.{Given, or_else_none, or_else_skip, or_else_assoc, given_good, size_good, room_good}
+use Rattle.arith.specs.Refusals.{or_else, given_of, size_of, room_of, number_of}
+use Rattle.arith.proofs.Refusals.{Given, or_else_none, or_else_skip, or_else_assoc, given_good, size_good, room_good, Stops, stop}
+use Rattle.arith.specs.declared.checks.Check.{Check}
+use Rattle.arith.specs.declared.checks.Check.TheVariants.{Refused}
+use Rattle.arith.specs.declared.checks.Refusal.{Refusal}
 use Rattle.pauli.specs.Bytes.{pauli_bytes}
+
+-- a call refuses by `all`, which is s or else x: where the check of s refuses, and past it
+pub stop_at : (s x : ℕ) {all : ℕ} {k : Refusal} {r : Check} → or_else s x ≡ all → number_of r ≡ s → r ≡ Refused k → Stops r all
+stop_at s x e f g = rw e at (stop s x f g)
 
 -- ---- one more refusal, after s
 pub past : (s x : ℕ) {all : ℕ} → or_else s x ≡ all → s ≡ 0 → all ≡ x
 past s x e f = sym e ∙ or_else_skip x f
+
+pub stop_past : (s x : ℕ) {all : ℕ} {r : Check} → or_else s x ≡ all → s ≡ 0 → Stops r x → Stops r all
+stop_past s x e f h = rw (past s x e f) h
 
 after_three : (a b c x : ℕ) → or_else (or_else a (or_else b c)) x ≡ or_else a (or_else b (or_else c x))
 after_three a b c x = or_else_assoc a (or_else b c) x ∙ ap (or_else a) (or_else_assoc b c x)

@@ -12,7 +12,7 @@ use Rattle.pauli.specs.declared.Pauli.{Pauli as Code}
 use Rattle.pauli.specs.Inner.View.{at, view}
 use Rattle.arith.proofs.Bytes.{tab_length}
 use Rattle.pauli.specs.Inner.Touched.{Touched, touched, placed, replaced, Has, Puts, OnOne}
-use Rattle.pauli.specs.Effects.{fourier, effect_s, effect_a, effect_m, effect_x, effect_z, effect_c}
+use Rattle.pauli.specs.Effects.{fourier, effect_s, effect_a, effect_m, effect_x, effect_z, effect_c, effect_w}
 use Rattle.pauli.proofs.Lists.{set_back, stored_first, stored_second, two_back}
 use Rattle.pauli.proofs.Ranges.{pauli_path}
 
@@ -51,6 +51,13 @@ phase_alone r e f = pauli_path (ap (λ (t : Touched). t.phase) r.holds) e f
 -- on two, one pair is put after the other
 pub placed_two : {i j : ℕ} {p q r s : Pauli} {t : Touched} → q ≡ placed i t.phase t.vi t.wi p → r ≡ placed j t.phase t.vj t.wj q → Puts i j t p s → r ≡ s
 placed_two {j = j} {t = t} e f u = f ∙ ap (placed j t.phase t.vj t.wj) e ∙ sym u.replaces
+
+-- ---- nothing done, and one effect after another
+pub puts_none : {o : Touched} → OnOne (λ i p. p) o o
+puts_none i p a e = record {
+  replaces = subst (λ (o : Touched). p ≡ replaced i i o p) e (pauli_path refl (sym (set-set p.v i _ _ ∙ set_back p.v i refl)) (sym (set-set p.w i _ _ ∙ set_back p.w i refl)));
+  holds = e;
+}
 
 module _ {i j : ℕ} {p q : Pauli} {h x z y u : ℕ} (apart : i ≢ j) (a : Has i p) (b : Has j p)
     (e : q.phase ≡ h) (f : q.v ≡ set (set p.v i x) j y) (g : q.w ≡ set (set p.w i z) j u) where
@@ -130,3 +137,7 @@ pub puts_c : (d k : ℕ) {i j : ℕ} {p : Pauli} {o : Touched} {h z u : ℕ} →
 puts_c d k {i} {j} {p} {o} {h} {z} {u} apart a b e = subst (λ (o : Touched). h ≡ (o.phase + 2 * (k * (o.vi * o.vj))) % (2 * d) → z ≡ (o.wi + k * o.vj) % d → u ≡ (o.wj + k * o.vi) % d
     → Puts i j (record { phase = h; vi = o.vi; wi = z; vj = o.vj; wj = u }) p (effect_c d i j k p)) e
     (λ eh ez eu. puts_two apart a b (sym eh) (sym (two_back p.v i j refl refl)) (ap₂ (λ (x y : ℕ). set (set p.w i x) j y) (sym ez) (sym eu)))
+
+pub puts_w : {i j : ℕ} {p : Pauli} {o : Touched} → i ≢ j → Has i p → Has j p → touched i j p ≡ o
+    → Puts i j (record { phase = o.phase; vi = o.vj; wi = o.wj; vj = o.vi; wj = o.wi }) p (effect_w i j p)
+puts_w {i} {j} {p} apart a b e = subst (λ (o : Touched). Puts i j (record { phase = o.phase; vi = o.vj; wi = o.wj; vj = o.vi; wj = o.wi }) p (effect_w i j p)) e (puts_two apart a b refl refl refl)

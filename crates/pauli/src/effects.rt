@@ -89,7 +89,7 @@ impl Pauli {
 
     // F: k times δ − 2·vi·wi, then vi, wi become −wi, vi.
     pub fn effect_f(self, i: u16, k: Power, d: u16) -> Pauli
-        requires { Dimension d × ((i < 16) × ((1 ≤ k.0) × (k.0 ≤ 3))) }
+        requires { Dimension d × (i < 16) }
         ensures value { (n : ℕ) → i < n → n ≤ 16 → view n result ≡ effect_f d i k.0 (view n self) }
         ensures word { (n : ℕ) → i < n → n ≤ 16 → WordTrue n self → WordTrue n result }
     {

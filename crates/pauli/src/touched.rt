@@ -61,20 +61,20 @@ impl Touched {
         on_one(phase.within(d), x.negative(d), z.negative(d))
     }
 
-    // F: k times, for a legal k. Three times is twice after once.
+    // F: k times, by two as far as k goes.
     pub fn effect_f(self, k: Power, d: u16) -> Touched
-        requires { Dimension d × ((1 ≤ k.0) × (k.0 ≤ 3)) }
+        requires { Dimension d }
         ensures { OnOne (λ i p. effect_f d i k.0 p) (view_touched self) (view_touched result) }
     {
         let times = k.0;
-        if times == 2 {
-            return self.half_turn(d);
+        let mut t = self;
+        for _ in 0..times / 2 {
+            t = t.half_turn(d);
         }
-        let once = self.fourier(d);
-        if times < 2 {
-            return once;
+        if times % 2 == 0 {
+            return t;
         }
-        once.half_turn(d)
+        t.fourier(d)
     }
 
     // S: δ + k·vi·(vi + d), wi + k·vi.

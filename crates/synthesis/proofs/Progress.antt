@@ -154,6 +154,9 @@ module _ (d n : ℕ) {t : List Pauli} {w : WrittenRow} where
 abbrev pub up_to : (ℕ → State → State) → ℕ → ℕ → State → State
 up_to f k j s = each f (up_from k (j - k)) s
 
+up_none : (f : ℕ → State → State) (k : ℕ) (s : State) → s ≡ up_to f k k s
+up_none f k s = let e : k - k ≡ 0 = omega arith in rw e
+
 up_more : (f : ℕ → State → State) (k j : ℕ) (s : State) → k ≤ j → f j (up_to f k j s) ≡ up_to f k (j + 1) s
 up_more f k j s h =
     let e : j + 1 - k ≡ suc (j - k) = omega arith in
@@ -161,9 +164,16 @@ up_more f k j s h =
     ap (λ (x : ℕ). f x (up_to f k j s)) q ∙ sym (each_more f k (j - k) s) ∙ ap (λ (m : ℕ). each f (up_from k m) s) (sym e)
 
 module _ {d : ℕ} {t : List Pauli} {out : List ℕ} {count : ℕ} where
+  pub loop_none : (f : ℕ → State → State) (a k : ℕ) → Does d a (up_to f k k) t out count t out count
+  loop_none f a k = record { does = λ first old s h. subst (λ (z : State). Holds d first old t out count z) (up_none f k s) h; within = omega arith }
+
   pub loop_more : {t' t'' : List Pauli} {out' out'' : List ℕ} {count' count'' m a b : ℕ} (f : ℕ → State → State) (k j : ℕ) → k ≤ j → count'' ≤ count + b
       → Does d a (up_to f k j) t out count t' out' count' → Does d m (f j) t' out' count' t'' out'' count'' → Does d b (up_to f k (j + 1)) t out count t'' out'' count''
   loop_more {t'' = t''} {out'' = out''} {count'' = count''} f k j h l x y = record {
     does = λ first old s z. subst (λ (u : State). Holds d first old t'' out'' count'' u) (up_more f k j s h) (y.does first old (up_to f k j s) (x.does first old s z));
     within = l;
   }
+
+-- none: at a power of 0 nothing is done
+pub says_does_none : {d n : ℕ} {f : State → State} {t : List Pauli} {out : List ℕ} {count : ℕ} {w : WrittenRow} → Says d n f t w → w.power ≡ 0 → Does d 1 f t out count t out count
+says_does_none {d} {t = t} {out = out} {count = count} a e = record { does = λ first old s h. subst (λ (z : State). Holds d first old t out count z) (a.idle e s h.tableau) h; within = omega arith }

@@ -43,6 +43,14 @@ set_row (w ∷ ws) rest (suc k) x h =
     let e : 8 * suc k ≡ length (encode_rows (w ∷ [])) + 8 * k = omega arith in
     rw e (sets_skip (encode_rows (w ∷ [])) (encode_rows ws ++ rest) (8 * k) (encode_rows (x ∷ [])) ∙ ap (λ (l : List ℕ). encode_rows (w ∷ []) ++ l) (set_row ws rest k x (le_of_suc-le-suc h)))
 
+-- a row of them is read
+-- two rows written
+pub write_two : (a b : ℕ) (out : List ℕ) {one two : List ℕ} {x y x' y' : WrittenRow} → one ≡ sets out (8 * a) (encode_rows (y ∷ [])) → two ≡ sets one (8 * b) (encode_rows (x ∷ [])) → x ≡ x' → y ≡ y'
+    → two ≡ sets (sets out (8 * a) (encode_rows (y' ∷ []))) (8 * b) (encode_rows (x' ∷ []))
+write_two a b out {one} {two} {x} {y} {x'} {y'} e f p q =
+    f ∙ ap (λ (l : List ℕ). sets l (8 * b) (encode_rows (x ∷ []))) (e ∙ ap (λ (w : WrittenRow). sets out (8 * a) (encode_rows (w ∷ []))) q)
+    ∙ ap (λ (w : WrittenRow). sets (sets out (8 * a) (encode_rows (y' ∷ []))) (8 * b) (encode_rows (w ∷ []))) p
+
 -- two rows swapped
 swap_rows : (ws : List WrittenRow) (rest : List ℕ) (a b : ℕ) {old new : List ℕ} → a < length ws → b < length ws → old ≡ encode_rows ws ++ rest
     → new ≡ sets (sets old (8 * a) (encode_rows (row_at old b ∷ []))) (8 * b) (encode_rows (row_at old a ∷ [])) → new ≡ encode_rows (swapped ws a b) ++ rest

@@ -22,6 +22,9 @@ stage_part n q c most l h = let e : n - q ≡ suc (n - suc q) = omega arith in o
     one : (m : ℕ) → c + stage_rows (suc m) ≤ most → c + (9 * m + 7) + stage_rows m ≤ most
     one m k = omega (arith, k)
 
+pub stage_start : (n c : ℕ) → c + stage_rows (n - 0) ≤ c + stage_rows n
+stage_start n c = let e : n - 0 ≡ n = omega arith in rw e (omega arith)
+
 pub stage_next : (n q c c' most : ℕ) → q < n → c + stage_rows (n - q) ≤ most → c' ≤ c + (9 * (n - suc q) + 7) → c' + stage_rows (n - (q + 1)) ≤ most
 stage_next n q c c' most l h k = rw (add-one q) (omega (arith, stage_part n q c most l h))
 

@@ -2,7 +2,7 @@
 use mathlib.Core.Path.{◌≡◌, refl, sym, ap, ◌∙◌}
 use mathlib.Core.List.{List, [], ◌∷◌, ◌++◌, append_assoc, append-nil}
 use Prim.Native.Nat.{ℕ, zero, suc, ◌+◌, ◌*◌, ◌≤◌, ◌<◌}
-use native.Mathlib.Nat.{mul-le-mul, zero-add}
+use native.Mathlib.Nat.{mul-le-mul, zero-add, le_refl}
 use native.Mathlib.Omega.{arith}
 use lib.ListN.{length, take, drop, length-append}
 use lib.Seq.{sets, length-sets, split_at, length-take-le}
@@ -20,6 +20,10 @@ use Rattle.tableau.specs.Tableau.{column, AllInRange, none, more, WellFormed}
 use Rattle.tableau.specs.Bytes.{tableau_bytes, column_at, decode_tableau, tableau_numbers, encode_tableau}
 use Rattle.tableau.specs.Range.{tableau_range_of}
 use Rattle.tableau.proofs.Columns.{column_range}
+
+-- ---- where column j of m stands
+pub column_inside : (n m j : ℕ) → j < m → 2 * (j * (1 + 2 * n) + 1 + 2 * n) ≤ 2 * (m * (1 + 2 * n))
+column_inside n m j h = omega (arith, mul-le-mul h (le_refl (1 + 2 * n)))
 
 -- ---- where column j stands, and how long a tableau is
 pub column_small : (n j : ℕ) → n ≤ 16 → j ≤ 32 → j * (1 + 2 * n) ≤ 1056

@@ -60,6 +60,10 @@ unfolding tab
 first_some d n b zero h = absurd (not-suc-le-zero h)
 first_some d n b (suc m) h = refl
 
+-- ---- tests of the numbers from k up to m: before the first turn, k passes, k fails, none is left
+pub all_start : (test : ℕ → Bool) (m : ℕ) → all test (up_from 0 m) ≡ all test (up_from 0 (m - 0))
+all_start test m = let e : m - 0 ≡ m = omega arith in rw e refl
+
 -- ---- tests of the numbers from k up to m: k passes, k fails, none is left
 pub all_pass : (test : ℕ → Bool) (k m : ℕ) → k < m → test k ≡ true → all test (up_from k (m - k)) ≡ all test (up_from (k + 1) (m - (k + 1)))
 all_pass test k m h e =

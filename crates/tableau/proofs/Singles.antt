@@ -50,6 +50,10 @@ pauli_decoded n batch j = pauli_path
     (tab_ext _ _ n (λ i l. number_at_lem n batch j (0 + 1 + i) (omega arith) ∙ ap (number_at batch) (omega arith)))
     (tab_ext _ _ n (λ i l. number_at_lem n batch j (0 + 1 + n + i) (omega arith) ∙ ap (number_at batch) (omega arith)))
 
+-- all of them are within the batch
+pub paulis_inside : (n have : ℕ) → 2 * (have / pauli_bytes n * (1 + 2 * n)) ≤ have
+paulis_inside n have = omega (arith, mod-add-div' have (pauli_bytes n))
+
 -- ---- the refusal: each test is made once
 -- r is 5 of the tableau, s its 7 and 8, x is 5 of a Pauli. Past r and s, 5 of the Pauli is left of a call's tests
 range_left : (r s x : ℕ) → r ≡ 0 → s ≡ 0 → or_else r (or_else x s) ≡ x

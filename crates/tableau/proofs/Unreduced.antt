@@ -81,11 +81,21 @@ zeros_summed = record { places = zeros_length 32; bounded = λ i. omega (arith, 
 pub summed_within : {m k : ℕ} {s : List ℕ} → m ≤ k → Summed m s → Summed k s
 summed_within l b = record { places = b.places; bounded = λ i. omega (arith, b.bounded i) }
 
+pub summed_more : {m k n : ℕ} {c s r : List ℕ} → Added k n c s r → Summed m s → Summed (m + 1) r
+summed_more a b = record { places = a.places; bounded = λ i. omega (arith, a.grown i, b.bounded i) }
+
 -- ---- the loop that adds: those before place i are added, the others are as they were
 pub record Adding (k i : ℕ) (c old new : List ℕ) : Type 0 where
   pub added : Added k i c old new
   pub v_left : (j : ℕ) → i ≤ j → j < 16 → get_or new j 0 ≡ get_or old j 0
   pub w_left : (j : ℕ) → i ≤ j → get_or new (16 + j) 0 ≡ get_or old (16 + j) 0
+
+pub adding_none : {k : ℕ} {c s : List ℕ} → length s ≡ 32 → Adding k 0 c s s
+adding_none e = record {
+  added = record { v_added = λ j l. absurd (omega arith); w_added = λ j l. absurd (omega arith); places = e; grown = λ j. omega arith };
+  v_left = λ j l h. refl;
+  w_left = λ j l. refl;
+}
 
 grown_set : (old new : List ℕ) (i x : ℕ) → i < length new → x ≤ get_or old i 0 + 67042305 → ((j : ℕ) → get_or new j 0 ≤ get_or old j 0 + 67042305) → (j : ℕ) → get_or (set new i x) j 0 ≤ get_or old j 0 + 67042305
 grown_set old new i x l h g j = by_eq j i (λ e. rw (e, get_or-set_same new i x 0 l) h) (λ ne. rw (get_or-set_other new i j x 0 ne) (g j))

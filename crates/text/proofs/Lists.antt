@@ -57,6 +57,13 @@ pub refused_some : (x : ℕ) {k : ℕ} {r : Outcome} → r ≡ outcome_of x → 
 refused_some zero e g o = let z : ◌≡◌ {A = ℕ} 0 1 = cc in omega arith
 refused_some (suc x) e g o = omega arith
 
+pub none_done : (x : ℕ) → x ≡ 0 → Done ≡ outcome_of x
+none_done x e = rw e
+
+pub some_refused : (x : ℕ) → x ≢ 0 → Refused x ≡ outcome_of x
+some_refused zero h = absurd (h refl)
+some_refused (suc x) h = refl
+
 -- ---- the refusals of a list are those of its rows
 list_size : (k : ℕ) → list_size_of (8 * k) ≡ row_count_of k
 unfolding whole_of list_size_of row_count_of

@@ -1,7 +1,7 @@
 -- What the text program prints for a T file: a list that does the tableau, or a refusal. Assumes nothing.
 use mathlib.Core.Path.{◌≡◌, sym, ap, ap₂, subst, ◌∙◌}
 use mathlib.Core.Logic.{◌↔◌, ◌⊎◌, inl, inr, ◌≢◌}
-use mathlib.Core.Bool.{Bool, true}
+use mathlib.Core.Bool.{Bool, true, false}
 use mathlib.Core.List.{List, [], ◌∷◌, ◌++◌, map, append-nil}
 use Prim.Native.Nat.{ℕ, suc, ◌+◌, ◌*◌, ◌/◌, ◌≤◌}
 use native.Mathlib.Omega.{arith}
@@ -77,6 +77,14 @@ counts_good n count full e = let z = or_else_none (unless_holds Length full) (si
 counts_hold : (n count : ℕ) (full : Bool) → full ≡ true → count ≡ 2 * n → counts_of n count full ≡ 0
 unfolding counts_of
 counts_hold n count full e f = rw e (size_passes {want = 2 * n} {have = count} f)
+
+pub counts_full : (n count : ℕ) (full : Bool) (r : ℕ) → full ≡ true → r ≡ size_of (2 * n) count → r ≡ counts_of n count full
+unfolding counts_of
+counts_full n count full r e f = rw e f
+
+pub counts_short : (n count : ℕ) (full : Bool) → full ≡ false → number_of (Refused Length) ≡ counts_of n count full
+unfolding counts_of
+counts_short n count full e = rw e
 
 -- ---- the refusals of a tableau are those of its columns
 module _ (d n : ℕ) (bytes : List ℕ) (columns : List (List ℕ)) (full : full_columns n columns ≡ true) (many : length columns ≡ 2 * n) (same : bytes ≡ bytes_of (concatenated (λ (c : List ℕ). c) columns)) where

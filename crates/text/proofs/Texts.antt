@@ -7,15 +7,25 @@ use native.Mathlib.Omega.{arith}
 use lib.ListN.{length, take, drop}
 use lib.Seq.{take_at}
 use Rattle.arith.specs.Bytes.{bytes_of}
+use Rattle.arith.specs.Refusals.{refusal_number}
+use Rattle.arith.specs.declared.checks.Refusal.TheVariants.{Text}
 use Rattle.gates.specs.Written.{WrittenRow, row_numbers, list_rows, encode_rows}
-use Rattle.text.specs.Format.{File, tableau_file, concatenated, LaidOut}
-use Rattle.text.specs.Inner.Reads.{ColumnsRead, RowsRead}
-use Rattle.text.specs.Convert.{PrintsFor, Converts}
+use Rattle.text.specs.Format.{File, tableau_file, list_file, partner_file, concatenated, LaidOut, print_refusal}
+use Rattle.text.specs.Inner.Reads.{Reads, ColumnsRead, RowsRead}
+use Rattle.text.specs.Convert.{PrintsFor, Converts, InputFits, ConvertsInput}
 use Rattle.text.specs.Inner.FromBytes.{RowsConvert, ColumnsConvert}
 use Rattle.text.proofs.Back.{rows_room, columns_room}
 use Rattle.gates.proofs.Written.{rows_bytes, list_encoded}
 use Rattle.text.proofs.Lists.{rows_concatenated}
 use Rattle.text.proofs.Unique.{one_file}
+use Rattle.text.specs.declared.reading.Reading.{Reading}
+use Rattle.text.specs.declared.reading.Reading.TheVariants.{NoFile, Tableau, Rows, PartnerRows}
+use Rattle.text.specs.declared.Input.{Input}
+use Rattle.text.specs.declared.Input.TheVariants.{Complete, Incomplete}
+
+-- ---- 9
+pub converts_none : {text output : List ℕ} → ((f : File) → LaidOut text f → ⊥) → output ≡ print_refusal (refusal_number Text) → Converts text output
+converts_none h p = record { file = λ f laid. absurd (h f laid); none = λ no. p }
 
 -- ---- a file: the only one that is laid out so
 converts_file : (text output : List ℕ) (f : File) → LaidOut text f → PrintsFor f output → Converts text output
@@ -37,11 +47,44 @@ module _ (file : ℕ → ℕ → List WrittenRow → File) (text before : List �
 
 -- a T file's numbers are there
 module _ (text before : List ℕ) {d n lines : ℕ} {full : Bool} (buffer : List ℕ) (read : ColumnsRead text before d n lines full buffer) where
-  pub columns_there : length buffer ≡ length before → full ≡ true → 2 * (lines * (1 + 2 * n)) ≤ length buffer
-  columns_there l f = columns_room text before d n lines buffer (subst (λ (x : Bool). ColumnsRead text before d n lines x buffer) f read) l
+  pub columns_read_there : length buffer ≡ length before → full ≡ true → 2 * (lines * (1 + 2 * n)) ≤ length buffer
+  columns_read_there l f = columns_room text before d n lines buffer (subst (λ (x : Bool). ColumnsRead text before d n lines x buffer) f read) l
 
-  pub converts_columns : (output : List ℕ) → ColumnsConvert d n lines full buffer output → Converts text output
-  converts_columns output p =
+  pub converts_columns_read : (output : List ℕ) → ColumnsConvert d n lines full buffer output → Converts text output
+  converts_columns_read output p =
       let columns : List (List ℕ) = read.columns in
       let b : List ℕ = bytes_of (concatenated (λ (c : List ℕ). c) columns) in
       converts_file text output (tableau_file d n columns) read.laid (p columns (drop (length b) before) read.counted read.sized read.holds)
+
+-- ---- by what the reader answers
+module _ (text before : List ℕ) (r : Reading) (buffer : List ℕ) (h : Reads text before r buffer) where
+  pub reads_none : r ≡ NoFile → (f : File) → LaidOut text f → ⊥
+  reads_none e = rw e at h
+
+  -- an L file, and a G file
+  pub read_rows : {d n lines : ℕ} → r ≡ Rows d n lines → RowsRead list_file text before d n lines buffer
+  read_rows e = rw e at h
+
+  pub read_partner : {d n lines : ℕ} → r ≡ PartnerRows d n lines → RowsRead partner_file text before d n lines buffer
+  read_partner e = rw e at h
+
+  -- a T file
+  module _ {d n lines : ℕ} {full : Bool} (e : r ≡ Tableau d n lines full) where
+    read_columns : ColumnsRead text before d n lines full buffer
+    read_columns = rw e at h
+
+    pub columns_there : length buffer ≡ length before → full ≡ true → 2 * (lines * (1 + 2 * n)) ≤ length buffer
+    columns_there l f = columns_read_there text before buffer read_columns l f
+
+    pub converts_columns : (output : List ℕ) → ColumnsConvert d n lines full buffer output → Converts text output
+    converts_columns output p = converts_columns_read text before buffer read_columns output p
+
+-- ---- what could be read of the input
+pub input_there : (size count : ℕ) (i : Input) → i ≡ Complete count → InputFits size i → count ≤ size
+input_there size count i e h = rw e at h
+
+pub input_complete : (buffer output : List ℕ) (count : ℕ) (i : Input) → i ≡ Complete count → Converts (take count buffer) output → ConvertsInput buffer i output
+input_complete buffer output count i e h = rw e h
+
+pub input_incomplete : (buffer output : List ℕ) (i : Input) → i ≡ Incomplete → output ≡ print_refusal (refusal_number Text) → ConvertsInput buffer i output
+input_incomplete buffer output i e h = rw e h

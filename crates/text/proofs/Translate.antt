@@ -1,5 +1,5 @@
 -- The translation of a partner's list in place: a row's power is written anew, and after the last row every row is translated. Assumes nothing.
-use mathlib.Core.Path.{◌≡◌, sym, ap, ap₂, ◌∙◌}
+use mathlib.Core.Path.{◌≡◌, sym, ap, ap₂, ◌∙◌, refl}
 use mathlib.Core.Logic.{◌≢◌}
 use mathlib.Core.List.{List, [], ◌∷◌, map}
 use Prim.Native.Nat.{ℕ, suc, ◌+◌, ◌*◌, ◌/◌, ◌%◌, ◌≤◌, ◌<◌}
@@ -52,6 +52,9 @@ module _ (b : List ℕ) (r x : ℕ) where
 pub record Partly (d r : ℕ) (old new : List ℕ) : Type 0 where
   pub before : (i : ℕ) → i < r → row_at new i ≡ translated d (row_at old i)
   pub after : (i : ℕ) → r ≤ i → row_at new i ≡ row_at old i
+
+pub partly_none : (d : ℕ) (list : List ℕ) → Partly d 0 list list
+partly_none d list = record { before = λ i l. absurd (omega arith); after = λ i l. refl }
 
 pub partly_next : (d r : ℕ) (old new : List ℕ) {x : ℕ} {last : List ℕ} → 8 * r + 8 ≤ length new → Partly d r old new → x ≡ (translated d (row_at new r)).power
     → last ≡ sets new (2 * (4 * r + 3)) (bytes_of (x ∷ [])) → Partly d (r + 1) old last

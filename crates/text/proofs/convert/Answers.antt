@@ -2,11 +2,11 @@
 use Rattle.std.proofs.Common.{arith}
 use Rattle.text.specs.Format.{list_file, partner_file}
 use Rattle.text.proofs.Lists.{front_length}
-use Rattle.text.proofs.Texts.{rows_there, columns_there, converts_rows, converts_columns}
+use Rattle.text.proofs.Texts.{rows_there, columns_read_there, converts_rows, converts_columns_read}
 use Rattle.text.proofs.convert.Goals as goal
 
 pub convert_columns-requires-clause-inside : goal.convert_columns-requires-clause-inside
-convert_columns-requires-clause-inside c = columns_there _ _ _ c.in-Tableau.ensures c.read.auto.out
+convert_columns-requires-clause-inside c = columns_read_there _ _ _ c.in-Tableau.ensures c.read.auto.out
 
 pub overflow_mul-lines : goal.overflow_mul-lines
 overflow_mul-lines c = omega (arith, rows_there list_file _ _ _ c.in-Rows.ensures c.read.auto.out)
@@ -27,7 +27,7 @@ pub slice_bounds-convert_partner-end-in-PartnerRows : goal.slice_bounds-convert_
 slice_bounds-convert_partner-end-in-PartnerRows c = front_length _ _ (rows_there partner_file _ _ _ c.in-PartnerRows.ensures c.read.auto.out)
 
 pub returns-in-Tableau : goal.returns-in-Tableau
-returns-in-Tableau c = let e = c.convert_columns.ensures in (e.0, converts_columns _ _ _ c.in-Tableau.ensures _ e.1)
+returns-in-Tableau c = let e = c.convert_columns.ensures in (e.0, converts_columns_read _ _ _ c.in-Tableau.ensures _ e.1)
 
 pub returns-in-Rows : goal.returns-in-Rows
 returns-in-Rows c = let e = c.convert_list.ensures in (e.0, converts_rows list_file _ _ _ c.in-Rows.ensures _ e.1)

@@ -3,13 +3,8 @@ use Rattle.std.proofs.Common.{◌≡◌, refl, arith}
 use Rattle.pauli.specs.Effects.{effect_f, effect_s, effect_m, effect_x, effect_z}
 use Rattle.gates.specs.Inner.View.{view_row}
 use Rattle.gates.proofs.Acts.{acts_one}
-use Rattle.gates.proofs.Written.{legal_bounds, legal_turns, not_two}
+use Rattle.gates.proofs.Written.{legal_bounds, not_two}
 use Rattle.gates.proofs.Ready.act_one.Goals as goal
-
-pub effect_f-requires : goal.effect_f-requires
-effect_f-requires c =
-    let l = c.requires.legal.0.1 in
-    (c.requires.dimension.0, legal_turns _ _ _ l (omega (arith, legal_bounds _ _ _ l)))
 
 pub returns-then-kind-lt2 : goal.returns-then-kind-lt2
 returns-then-kind-lt2 c =

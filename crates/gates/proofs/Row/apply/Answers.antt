@@ -3,7 +3,7 @@ use Rattle.std.proofs.Common.{◌≡◌, ◌≢◌, true, ℕ, ◌-◌, ◌≤�
 use Rattle.arith.specs.Refusals.{Dimension}
 use Rattle.gates.specs.Written.{WrittenRow, takes_two, legal_row}
 use Rattle.gates.proofs.Acts.{of_kind_lem}
-use Rattle.gates.proofs.Written.{legal_first, legal_second_lem, legal_apart, legal_unit, legal_bounds, legal_turns}
+use Rattle.gates.proofs.Written.{legal_first, legal_second_lem, legal_apart, legal_unit, legal_bounds}
 use Rattle.gates.proofs.Row.apply.Goals as goal
 
 -- what is known of a legal row: its kind, and its first qudit, one of n and so one of 16
@@ -36,7 +36,7 @@ pub overflow_sub-i : goal.overflow_sub-i
 overflow_sub-i c = let r = one c.requires.dimension c.requires.legal in r.low
 
 pub effect_f-requires : goal.effect_f-requires
-effect_f-requires c = let r = one c.requires.dimension c.requires.legal in (r.dimension, (r.place, legal_turns _ _ _ c.requires.legal (omega arith)))
+effect_f-requires c = let r = one c.requires.dimension c.requires.legal in (r.dimension, r.place)
 
 pub returns-then-kind-lt2 : goal.returns-then-kind-lt2
 returns-then-kind-lt2 c =

@@ -1,7 +1,14 @@
--- `pauli::touched::Touched::effect_f` meets its contract: k is 2, 1 or 3. Only 3 needs an answer: once, and then twice.
-use Rattle.std.proofs.Common.{◌≡◌, arith}
+-- `pauli::touched::Touched::effect_f` meets its contract: two more times at each turn, then once more where k is odd.
+use Rattle.std.proofs.Common.{◌≡◌, ◌+◌, ◌*◌, suc, arith}
 use Rattle.pauli.proofs.Numbers.{puts_next}
 use Rattle.pauli.proofs.touched.Touched.effect_f.Goals as goal
 
+pub loop-preserved : goal.loop-preserved
+loop-preserved c =
+    let e : 2 * (c.loop.counter + 1) ≡ suc (suc (2 * c.loop.counter)) = omega arith in
+    rw e (puts_next c.loop.invariant c.half_turn-t.ensures)
+
 pub returns : goal.returns
-returns c = let e : c.args.k.0 ≡ 3 = omega arith in rw e (puts_next c.fourier-once.ensures c.half_turn-2.ensures)
+returns c =
+    let e : c.args.k.0 ≡ suc (2 * c.loop.counter) = omega arith in
+    rw e (puts_next c.loop.invariant c.fourier.ensures)
