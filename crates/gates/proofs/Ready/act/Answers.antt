@@ -1,5 +1,6 @@
--- `gates::Ready::act` meets its contract: what is done is the effect of the row's kind, and no legal row has another kind.
-use Rattle.std.proofs.Common.{ap, refl, arith}
+-- `gates::Ready::act` meets its contract: what is done is the effect of the row's kind, and no legal row has another kind. The effects of X and Z
+-- are looked up, not named: so a program that exchanges them is refused at what it does.
+use Rattle.std.proofs.Common.{rules, ap, refl, arith}
 use Rattle.pauli.specs.Effects.{effect_f, effect_s, effect_a, effect_m, effect_x, effect_z, effect_c, effect_w}
 use Rattle.gates.specs.Inner.View.{view_row}
 use Rattle.gates.specs.Written.{takes_two}
@@ -22,10 +23,10 @@ pub returns-in-4 : goal.returns-in-4
 returns-in-4 c n legal = let a = c.args in acts_one a.d (view_row a.self.row) 4 c.in-4.is (λ i p. effect_m a.d i a.self.row.power p) refl (λ p. refl) c.effect_m.ensures
 
 pub returns-in-5 : goal.returns-in-5
-returns-in-5 c n legal = let a = c.args in acts_one a.d (view_row a.self.row) 5 c.in-5.is (λ i p. effect_x a.d i a.self.row.power p) refl (λ p. refl) c.effect_x.ensures
+returns-in-5 c n legal = let a = c.args in acts_one a.d (view_row a.self.row) 5 c.in-5.is (λ i p. effect_x a.d i a.self.row.power p) refl (λ p. refl) (search rules)
 
 pub returns-in-6 : goal.returns-in-6
-returns-in-6 c n legal = let a = c.args in acts_one a.d (view_row a.self.row) 6 c.in-6.is (λ i p. effect_z a.d i a.self.row.power p) refl (λ p. refl) c.effect_z.ensures
+returns-in-6 c n legal = let a = c.args in acts_one a.d (view_row a.self.row) 6 c.in-6.is (λ i p. effect_z a.d i a.self.row.power p) refl (λ p. refl) (search rules)
 
 pub returns-in-7 : goal.returns-in-7
 returns-in-7 c n legal =
