@@ -7,7 +7,7 @@
 # make clean       removes what was built
 
 PREFIX ?= /usr/local
-VERSION = 1.6.2
+VERSION = 1.6.3
 
 .PHONY: all test gate hosts lib program install clean
 
@@ -30,8 +30,8 @@ lib: build/libclifford.a
 SOURCES = crates.txt $(shell find crates -name '*.rt' -o -name '*.antt')
 
 build/libclifford.a: $(SOURCES)
-	@cd crates/clifford && ../../tests/proving ../../build/lib.log rt lib
-	cp crates/clifford/out/libclifford.a $@
+	@cd crates/clifford_c && ../../tests/proving ../../build/lib.log rt lib
+	cp crates/clifford_c/out/libclifford_c.a $@
 
 program: build/convert
 

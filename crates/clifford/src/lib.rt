@@ -1,5 +1,4 @@
-// The C interface: an entry for each public call, with the whole contract of the call that it makes. include/clifford.h has the prototypes.
-// A slice passes as a pointer and a length.
+// The calls of the C interface, each with the whole contract of the call that it makes, for a caller in Rattle. The crate clifford_c exports them.
 
 #![tactic(auto)]
 
@@ -18,64 +17,56 @@ use arith::checks::Answer;
 use pauli::calls::SupportAnswer;
 
 // The least multiplier of a and b: of 0, 1, −1, 2, −2 and on the first that fits, as a residue.
-#[unsafe(no_mangle)]
-pub extern "C" fn clifford_least_multiplier(d: u16, a: u16, b: u16) -> Answer
+pub fn clifford_least_multiplier(d: u16, a: u16, b: u16) -> Answer
     ensures { Answered (multiplier_refusal d a b) (least_multiplier d a b) result }
 {
     arith::calls::least_multiplier(d, a, b)
 }
 
 // The product of p and q, in this order.
-#[unsafe(no_mangle)]
-pub extern "C" fn clifford_product(d: u16, n: u16, p: &[u8], q: &[u8], out: &mut [u8]) -> u16
+pub fn clifford_product(d: u16, n: u16, p: &[u8], q: &[u8], out: &mut [u8]) -> u16
     ensures { Written (product_refusal d n p.now q.now (length out.old)) (product_bytes d n p.now q.now) out.old out.new result }
 {
     pauli::calls::product(d, n, p, q, out)
 }
 
 // p to the power k.
-#[unsafe(no_mangle)]
-pub extern "C" fn clifford_power(d: u16, n: u16, p: &[u8], k: u16, out: &mut [u8]) -> u16
+pub fn clifford_power(d: u16, n: u16, p: &[u8], k: u16, out: &mut [u8]) -> u16
     ensures { Written (power_refusal d n p.now (length out.old)) (power_bytes d n p.now k) out.old out.new result }
 {
     pauli::calls::power(d, n, p, k, out)
 }
 
 // The commutation number of p and q.
-#[unsafe(no_mangle)]
-pub extern "C" fn clifford_commutation(d: u16, n: u16, p: &[u8], q: &[u8]) -> Answer
+pub fn clifford_commutation(d: u16, n: u16, p: &[u8], q: &[u8]) -> Answer
     ensures { Answered (commutation_refusal d n p.now q.now) (commutation_number d n p.now q.now) result }
 {
     pauli::calls::commutation(d, n, p, q)
 }
 
 // The support word of p, and the number of qudits that it touches.
-#[unsafe(no_mangle)]
-pub extern "C" fn clifford_support(d: u16, n: u16, p: &[u8]) -> SupportAnswer
+pub fn clifford_support(d: u16, n: u16, p: &[u8]) -> SupportAnswer
     ensures { Supported d n p.now result }
 {
     pauli::calls::support(d, n, p)
 }
 
 // What the list carries p to.
-#[unsafe(no_mangle)]
-pub extern "C" fn clifford_run(d: u16, n: u16, list: &[u8], p: &[u8], out: &mut [u8]) -> u16
+pub fn clifford_run(d: u16, n: u16, list: &[u8], p: &[u8], out: &mut [u8]) -> u16
     ensures { Written (run_refusal d n list.now p.now (length out.old)) (run_bytes d n list.now p.now) out.old out.new result }
 {
     gates::calls::run(d, n, list, p, out)
 }
 
 // The tableau of the list.
-#[unsafe(no_mangle)]
-pub extern "C" fn clifford_tableau(d: u16, n: u16, list: &[u8], out: &mut [u8]) -> u16
+pub fn clifford_tableau(d: u16, n: u16, list: &[u8], out: &mut [u8]) -> u16
     ensures { Written (tableau_refusal d n list.now (length out.old)) (tableau_answer d n list.now) out.old out.new result }
 {
     tableau::calls::tableau_of(d, n, list, out)
 }
 
 // A list that does the tableau, and its number of rows.
-#[unsafe(no_mangle)]
-pub extern "C" fn clifford_synthesis(d: u16, n: u16, tableau: &[u8], out: &mut [u8]) -> Answer
+pub fn clifford_synthesis(d: u16, n: u16, tableau: &[u8], out: &mut [u8]) -> Answer
     ensures synthesised { Synthesised d n tableau.now out.old out.new result }
     ensures chosen { Chosen d n tableau.now out.new result }
 {
@@ -83,16 +74,14 @@ pub extern "C" fn clifford_synthesis(d: u16, n: u16, tableau: &[u8], out: &mut [
 }
 
 // The image of p under the tableau.
-#[unsafe(no_mangle)]
-pub extern "C" fn clifford_image(d: u16, n: u16, tableau: &[u8], p: &[u8], out: &mut [u8]) -> u16
+pub fn clifford_image(d: u16, n: u16, tableau: &[u8], p: &[u8], out: &mut [u8]) -> u16
     ensures { Written (image_refusal d n tableau.now p.now (length out.old)) (image_answer d n tableau.now p.now) out.old out.new result }
 {
     tableau::calls::image(d, n, tableau, p, out)
 }
 
 // The images of up to 512 Paulis, end to end, under the tableau: as single calls made in order answer.
-#[unsafe(no_mangle)]
-pub extern "C" fn clifford_images(
+pub fn clifford_images(
     d: u16,
     n: u16,
     tableau: &[u8],
@@ -105,8 +94,7 @@ pub extern "C" fn clifford_images(
 }
 
 // The first tableau, then the second.
-#[unsafe(no_mangle)]
-pub extern "C" fn clifford_compose(
+pub fn clifford_compose(
     d: u16,
     n: u16,
     first: &[u8],
@@ -119,16 +107,14 @@ pub extern "C" fn clifford_compose(
 }
 
 // The tableau that undoes the given one.
-#[unsafe(no_mangle)]
-pub extern "C" fn clifford_inverse(d: u16, n: u16, tableau: &[u8], out: &mut [u8]) -> u16
+pub fn clifford_inverse(d: u16, n: u16, tableau: &[u8], out: &mut [u8]) -> u16
     ensures { Written (inverse_refusal d n tableau.now (length out.old)) (inverse_answer d n tableau.now) out.old out.new result }
 {
     tableau::calls::inverse(d, n, tableau, out)
 }
 
 // The ticks of the list, where rows on separate qudits run in the same one: the highest tick used.
-#[unsafe(no_mangle)]
-pub extern "C" fn clifford_ticks(d: u16, n: u16, list: &[u8]) -> Answer
+pub fn clifford_ticks(d: u16, n: u16, list: &[u8]) -> Answer
     ensures { Answered (ticks_refusal d n list.now) (ticks_of list.now) result }
 {
     gates::calls::ticks(d, n, list)
