@@ -19,6 +19,8 @@ WORD = r'[^\s(){}.;,@"«»\x60]+'
 MARKS = r"(?:(?:unfoldable|abbrev|pub|pattern) )*"
 SIGNATURE = re.compile(rf"^( *){MARKS}({WORD}(?: {WORD})*)(?: \{{[^{{}}]*\}})* :(?:\s+(.*))?$")
 LET = re.compile(rf"(?<![^\s(])(?:let|in let) ({WORD})")
+BINDER = re.compile(rf"[({{]({WORD}(?: {WORD})*) :(?=\s)")
+LEFT = re.compile(rf"^ *{WORD}((?: {WORD})+) =(?=\s|$)")
 ALIAS = re.compile(rf"{WORD} as ({WORD})")
 IMPORT = re.compile(r"\buse ((?:Rattle\.(?:std|core)|mathlib|Prim|native|lib|grothendieck)\b[^\s{{]*?)\.?\{([^}]*)\}", re.S)
 # Names that would meet another: a lemma that would have its function's name gets `_lem`, a field says what it states. Each by the paths where it is so named.
@@ -80,6 +82,8 @@ def declared(path, text):
         if m and not (answers and (MADE.search(m[2]) or not m[1] and (OF_A_GOAL.match(m[3] or "") or path.endswith("Proof.antt")))):
             yield from m[2].split()
         yield from LET.findall(line)
+        for names in BINDER.findall(line) + LEFT.findall(line):
+            yield from (w for w in names.split() if "-" in w)
     yield from ALIAS.findall(text)
 
 
@@ -106,12 +110,12 @@ def own_names(root):
 CAPITAL_INSIDE = r"[a-z][a-z0-9]*(?:[A-Z]+[a-z0-9]*)+"
 
 
-def turned(text, path, own, keep=()):
-    """The text with each own word turned, and each local name with a capital inside, which is no name of Rattle's."""
+def turned(text, path, own, keep=(), code=True):
+    """The text with each own word turned; in code also each other name with a capital inside, a local one, since none of Rattle's has one."""
 
     def one(m):
         bare = m[0].rstrip("'")
-        if bare in keep or bare not in own and not re.fullmatch(CAPITAL_INSIDE, bare):
+        if bare in keep or bare not in own and not (code and re.fullmatch(CAPITAL_INSIDE, bare)):
             return m[0]
         return spelled(bare, path) + m[0][len(bare) :]
 
@@ -126,7 +130,7 @@ def capitals(text, path, own):
 def prose(text, path, own):
     """A comment: its code spans, and elsewhere the words with a capital inside."""
     parts = re.split(r"(\x60[^\x60\n]*\x60)", text)
-    return "".join(turned(t, path, own) if k % 2 else capitals(t, path, own) for k, t in enumerate(parts))
+    return "".join(turned(t, path, own, code=False) if k % 2 else capitals(t, path, own) for k, t in enumerate(parts))
 
 
 def by_lines(text, path, own, comment, keep=()):

@@ -132,15 +132,15 @@ quotient_euclid d a b e q u pos de bq h = first_unique (quotient_found d a b pos
         omega arith
 
 -- as code computes it, with g and u from Euclid's algorithm
-module _ (d a : ℕ) {g : ℕ} (of-g : g ≡ gcd a d) (pos : 0 < d) where
+module _ (d a : ℕ) {g : ℕ} (of_g : g ≡ gcd a d) (pos : 0 < d) where
   pub divisor_pos : 0 < g
-  divisor_pos = rw of-g (dvd_pos pos (gcd_right a d))
+  divisor_pos = rw of_g (dvd_pos pos (gcd_right a d))
 
   part : (x : ℕ) → x % g ≡ 0 → x ≡ gcd a d * (x / g)
-  part x e = omega (arith, mod-add-div' x g) ∙ ap (λ (y : ℕ). y * (x / g)) of-g
+  part x e = omega (arith, mod-add-div' x g) ∙ ap (λ (y : ℕ). y * (x / g)) of_g
 
   whole : d ≡ gcd a d * (d / g)
-  whole = part d (rw of-g ((dvd_cong (gcd_right a d)).same ∙ zero-mod (gcd a d)))
+  whole = part d (rw of_g ((dvd_cong (gcd_right a d)).same ∙ zero-mod (gcd a d)))
 
   pub modulus_pos : 0 < d / g
   modulus_pos = (factor_pos (gcd a d) (d / g) pos whole).1
@@ -150,7 +150,7 @@ module _ (d a : ℕ) {g : ℕ} (of-g : g ≡ gcd a d) (pos : 0 < d) where
 
   pub quotient_missing : (b : ℕ) → b % g ≢ 0 → d ≡ quotient d a b
   unfolding divides
-  quotient_missing b ne = sym (quotient_none d a b pos (eqb_case (λ (t : Bool). t ≡ false) (b % gcd a d) 0 (λ e. absurd (ne (ap (λ (y : ℕ). b % y) of-g ∙ e))) (λ o. refl)))
+  quotient_missing b ne = sym (quotient_none d a b pos (eqb_case (λ (t : Bool). t ≡ false) (b % gcd a d) 0 (λ e. absurd (ne (ap (λ (y : ℕ). b % y) of_g ∙ e))) (λ o. refl)))
 
 -- ---- negatives
 pub minus_sum : (d w : ℕ) → 0 < d → Cong d (w + neg d w % d) 0

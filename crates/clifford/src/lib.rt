@@ -81,26 +81,14 @@ pub fn clifford_image(d: u16, n: u16, tableau: &[u8], p: &[u8], out: &mut [u8]) 
 }
 
 // The images of up to 512 Paulis, end to end, under the tableau: as single calls made in order answer.
-pub fn clifford_images(
-    d: u16,
-    n: u16,
-    tableau: &[u8],
-    paulis: &[u8],
-    out: &mut [u8],
-) -> u16
+pub fn clifford_images(d: u16, n: u16, tableau: &[u8], paulis: &[u8], out: &mut [u8]) -> u16
     ensures { Written (images_refusal d n tableau.now paulis.now (length out.old)) (images_answer d n tableau.now paulis.now) out.old out.new result }
 {
     tableau::batch::images(d, n, tableau, paulis, out)
 }
 
 // The first tableau, then the second.
-pub fn clifford_compose(
-    d: u16,
-    n: u16,
-    first: &[u8],
-    second: &[u8],
-    out: &mut [u8],
-) -> u16
+pub fn clifford_compose(d: u16, n: u16, first: &[u8], second: &[u8], out: &mut [u8]) -> u16
     ensures { Written (compose_refusal d n first.now second.now (length out.old)) (compose_answer d n first.now second.now) out.old out.new result }
 {
     tableau::calls::compose(d, n, first, second, out)

@@ -74,13 +74,13 @@ pub record Running (rows : List Row) (last : List ℕ) (highest : ℕ) : Type 0 
 
 -- one row more, on the qudits i and j, whose tick is t
 module _ {before : List Row} {last : List ℕ} {highest : ℕ} (s : Running before last highest) (w : WrittenRow) (i j t : ℕ)
-    (first : i ≡ w.first - 1) (other : j ≡ other_of w) (i-in : i < 16) (j-in : j < 16) (next : t ≡ max (get_or last i 0) (get_or last j 0) + 1) where
+    (first : i ≡ w.first - 1) (other : j ≡ other_of w) (i_in : i < 16) (j_in : j < 16) (next : t ≡ max (get_or last i 0) (get_or last j 0) + 1) where
   its_tick : t ≡ tick_of (last_ticks unused before) (meant w)
-  its_tick = next ∙ rw (s.kept i i-in, s.kept j j-in, first, other) (sym (tick_pair (last_ticks unused before) w))
+  its_tick = next ∙ rw (s.kept i i_in, s.kept j j_in, first, other) (sym (tick_pair (last_ticks unused before) w))
 
   its_places : (q : ℕ) → q < 16 → get_or (set (set last i t) j t) q 0 ≡ after_row (last_ticks unused before) (meant w) q
   unfolding after_row
-  its_places q h = set_both last i j q t (rw s.whole i-in) (rw s.whole j-in) ∙ rw (uses_pair w q, its_tick, s.kept q h, first, other)
+  its_places q h = set_both last i j q t (rw s.whole i_in) (rw s.whole j_in) ∙ rw (uses_pair w q, its_tick, s.kept q h, first, other)
 
   running_more : (u : ℕ) → u ≡ max highest t → Running (before ++ (meant w ∷ [])) (set (set last i t) j t) u
   unfolding last_ticks row_ticks ticks largest
@@ -103,7 +103,7 @@ module _ (f : ℕ → WrittenRow) where
 
   pub running_next : {last : List ℕ} {highest : ℕ} (r : ℕ) (w : WrittenRow) (i j t u : ℕ) → Running (map meant (tab f r)) last highest → w ≡ f r → i ≡ w.first - 1 → j ≡ other_of w → i < 16 → j < 16
       → t ≡ max (get_or last i 0) (get_or last j 0) + 1 → u ≡ max highest t → Running (map meant (tab f (r + 1))) (set (set last i t) j t) u
-  running_next {last} {highest} r w i j t u s e first other i-in j-in next top =
+  running_next {last} {highest} r w i j t u s e first other i_in j_in next top =
       subst (λ (rs : List Row). Running rs (set (set last i t) j t) u)
       (ap (λ (v : WrittenRow). map meant (tab f r) ++ (meant v ∷ [])) e ∙ sym (rows_more f r))
-      (running_more s w i j t first other i-in j-in next u top)
+      (running_more s w i j t first other i_in j_in next u top)

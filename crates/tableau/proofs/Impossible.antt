@@ -157,7 +157,7 @@ both_listed d n t u e f =
 
 pub compose_no_lists : (d n : ℕ) (t u : List ℕ) (room : ℕ) → Unrealisable (compose_refusal d n t u room)
     → (rows later_rows : List Row) → AllLegal d n rows → AllLegal d n later_rows → tableau_of d n rows ≡ decode_tableau n t → tableau_of d n later_rows ≡ decode_tableau n u → ⊥
-compose_no_lists d n t u room r rows later_rows legal later-legal e f =
+compose_no_lists d n t u room r rows later_rows legal later_legal e f =
     let a = later (given_of d n) _ (given_below d n) r in
     let b = later (size_of (tableau_bytes n) (length t)) _ (size_below (tableau_bytes n) (length t)) a.1 in
     let c = later (size_of (tableau_bytes n) (length u)) _ (size_below (tableau_bytes n) (length u)) b.1 in
@@ -165,4 +165,4 @@ compose_no_lists d n t u room r rows later_rows legal later-legal e f =
     let h = later (tableau_range_of d (decode_tableau n t)) _ (tableau_below d (decode_tableau n t)) g.1 in
     let k = later (tableau_range_of d (decode_tableau n u)) _ (tableau_below d (decode_tableau n u)) h.1 in
     let one = (given_good a.0).dimension.d_low in
-    none_refused (both_listed d n (decode_tableau n t) (decode_tableau n u) (listed_passes one rows legal e) (listed_passes one later_rows later-legal f)) k.1
+    none_refused (both_listed d n (decode_tableau n t) (decode_tableau n u) (listed_passes one rows legal e) (listed_passes one later_rows later_legal f)) k.1
