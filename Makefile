@@ -27,7 +27,7 @@ hosts: reference compare ctest stack pyexample texttest partner
 
 lib: build/libclifford.a
 
-SOURCES = crates.txt $(shell find crates -name '*.rt' -o -name '*.antt')
+SOURCES = crates.txt $(shell find crates -name out -prune -o \( -name '*.rt' -o -name '*.antt' \) -print)
 
 build/libclifford.a: $(SOURCES)
 	@cd crates/clifford_c && ../../tests/proving ../../build/lib.log rt lib

@@ -45,7 +45,7 @@ OF_A_GOAL = re.compile(r"^(?:goal|need|needs|rules)\b")
 def snake(name):
     if not name[0].islower() or "◌" in name:
         return name
-    return re.sub(r"(?<=[a-z0-9])[A-Z]+", lambda m: "_" + m[0].lower(), name).replace("-", "_")
+    return re.sub(r"(?<=[a-z0-9])[A-Z]+", lambda m: "_" + m[0].lower(), re.sub("-[A-Z]", lambda m: m[0].lower(), name)).replace("-", "_")
 
 
 def spelled(name, path):

@@ -5,10 +5,10 @@
 --     ring₁ d (x ∷ y ∷ []) p (search quote depth 30) (search quote depth 30) tt : Cong d LEFT RIGHT          -- p : 0 < d
 --     ring₂ d (x ∷ y ∷ []) p (search quote depth 30) (search quote depth 30) tt : Cong (2 * d) LEFT RIGHT
 --     ringₙ 2 (x ∷ y ∷ []) p (search quote depth 30) (search quote depth 30) tt : Cong 2 LEFT RIGHT          -- any numeral, p : 0 < 2
---     ring₁-by d (x ∷ y ∷ []) p (times {z = X} (search quote) (search quote) (search quote) h) ..            -- with h : Cong d A B, taken X times
+--     ring₁_by d (x ∷ y ∷ []) p (times {z = X} (search quote) (search quote) (search quote) h) ..            -- with h : Cong d A B, taken X times
 --
 -- The list holds the unknowns ("atoms") of the two sides besides d, each any term: `x`, `x % d`, `dot v w`. At most twelve; for more add rules at13, ..
--- `ring-by` proves LEFT ≡ RIGHT where LEFT − RIGHT is the sum of the X·(A − B). Of a numeral above 4, list its quotation: `search (quote, con 17) depth 30`.
+-- `ring₁_by` proves LEFT ≡ RIGHT where LEFT − RIGHT is the sum of the X·(A − B). Of a numeral above 4, list its quotation: `search (quote, con 17) depth 30`.
 -- Refused with `⊥` against `Unit` at `tt`: the two sides are not equal as polynomials. Refused at `search`: a part is no atom, sum, product, negative or remainder.
 use mathlib.Core.Path.{◌≡◌, refl, sym, ◌∙◌, ap, ap₂, subst}
 use mathlib.Core.List.{List, [], ◌∷◌}

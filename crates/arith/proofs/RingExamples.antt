@@ -26,19 +26,19 @@ sum_gate d k v1 v2 w1 w2 p = ring₁ d (k ∷ v1 ∷ v2 ∷ w1 ∷ w2 ∷ []) p 
 
 -- The gate M keeps w·v: it needs that k' is k's inverse. The known congruence k·k' ≡ 1 is taken w·v times.
 m_gate : (d k k' v w : ℕ) → 0 < d → Cong d (k * k') 1 → Cong d ((k' * w) * (k * v)) (w * v)
-m_gate d k k' v w p h = ring₁_by d (k ∷ k' ∷ v ∷ w ∷ []) p (times (W ⊗ A) (K ⊗ K') (con 1) h) (search quote depth 30) (search quote depth 30) tt
+m_gate d k k' v w p h = ring₁_by d (k ∷ k' ∷ v ∷ w ∷ []) p (times (quote_w ⊗ quote_v) (quote_k ⊗ quote_k') (con 1) h) (search quote depth 30) (search quote depth 30) tt
   where
-    K : Q (d ∷ k ∷ k' ∷ v ∷ w ∷ []) d k
-    K = var 1
+    quote_k : Q (d ∷ k ∷ k' ∷ v ∷ w ∷ []) d k
+    quote_k = var 1
 
-    K' : Q (d ∷ k ∷ k' ∷ v ∷ w ∷ []) d k'
-    K' = var 2
+    quote_k' : Q (d ∷ k ∷ k' ∷ v ∷ w ∷ []) d k'
+    quote_k' = var 2
 
-    A : Q (d ∷ k ∷ k' ∷ v ∷ w ∷ []) d v
-    A = var 3
+    quote_v : Q (d ∷ k ∷ k' ∷ v ∷ w ∷ []) d v
+    quote_v = var 3
 
-    W : Q (d ∷ k ∷ k' ∷ v ∷ w ∷ []) d w
-    W = var 4
+    quote_w : Q (d ∷ k ∷ k' ∷ v ∷ w ∷ []) d w
+    quote_w = var 4
 
 -- The same, with everything found by `search` but the multiplier, whose value is written.
 m_gate' : (d k k' v w : ℕ) → 0 < d → Cong d (k * k') 1 → Cong d ((k' * w) * (k * v)) (w * v)

@@ -1,4 +1,4 @@
--- In the order to read them. `inner` has what the contracts of functions inside the crate speak of: no reader needs it to believe what a public call promises.
+-- In the order to read them. `Inner` has what the contracts of functions inside the crate speak of: no reader needs it to believe what a public call promises.
 pub mod Row
 pub mod Written
 pub mod Ticks

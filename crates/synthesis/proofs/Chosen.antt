@@ -19,7 +19,7 @@ use Rattle.synthesis.specs.Inner.Reduce.{synthesised}
 use Rattle.synthesis.specs.Demand3.{handed, synthesis_refusal, Synthesised}
 use Rattle.synthesis.specs.Chosen.{list_of, Chosen}
 
--- ---- an accepted call
+-- ---- an accepted call, and a refused one
 pub chosen_accepted : {d n : ℕ} {bytes new : List ℕ} {a : Answer} (old : List ℕ) → a.value ≡ length (synthesised d n (decode_tableau n bytes)) → new ≡ front (list_of d n bytes) old → Chosen d n bytes new a
 chosen_accepted {d} {n} {bytes} {new} {a} old v f =
     let rows = synthesised d n (decode_tableau n bytes) in

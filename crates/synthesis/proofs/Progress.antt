@@ -77,7 +77,7 @@ module _ {d : ℕ} {t t' : List Pauli} {out out' : List ℕ} {count count' : ℕ
   does_more h a = record { does = a.does; within = omega (arith, a.within) }
 
   -- a step that is the same at the tableau that the code holds
-  does_as : {k : ℕ} {f : State → State} (g : State → State) → ((s : State) → t ≡ s.tableau → f s ≡ g s) → Does d k f t out count t' out' count' → Does d k g t out count t' out' count'
+  pub does_as : {k : ℕ} {f : State → State} (g : State → State) → ((s : State) → t ≡ s.tableau → f s ≡ g s) → Does d k f t out count t' out' count' → Does d k g t out count t' out' count'
   does_as {k} {f} g e a = record {
     does = λ first old s h. subst (λ (z : State). Holds d first old t' out' count' z) (e s h.tableau) (a.does first old s h);
     within = a.within;
@@ -121,7 +121,7 @@ module _ (d n : ℕ) {t : List Pauli} {w : WrittenRow} where
     puts = λ o s h. eqb_case (λ b. put d (meant w) s ≡ cond b s (put d x s)) k none (λ q. absurd (ne q)) (λ q. ap (λ (y : Row). put d y s) (ap meant e ∙ meant_of_written x));
   }
 
-  says_none : {none k : ℕ} (g : State → State) → k ≡ none → w.power ≡ 0 → Says d n (λ s. cond (eqb k none) s (g s)) t w
+  pub says_none : {none k : ℕ} (g : State → State) → k ≡ none → w.power ≡ 0 → Says d n (λ s. cond (eqb k none) s (g s)) t w
   says_none {none} {k} g e z = record {
     idle = λ o s h. eqb_case (λ b. s ≡ cond b s (g s)) k none (λ q. refl) (λ ne. absurd (ne e));
     legal = λ ne. absurd (ne z);

@@ -29,7 +29,7 @@ pub stage_next : (n q c c' most : ℕ) → q < n → c + stage_rows (n - q) ≤ 
 stage_next n q c c' most l h k = rw (add-one q) (omega (arith, stage_part n q c most l h))
 
 -- all from 0 on
-up_all : (f : ℕ → State → State) (j : ℕ) (s : State) → up_to f 0 j s ≡ each f (up_from 0 j) s
+pub up_all : (f : ℕ → State → State) (j : ℕ) (s : State) → up_to f 0 j s ≡ each f (up_from 0 j) s
 up_all f j s = let e : j - 0 ≡ j = omega arith in ap (λ (m : ℕ). each f (up_from 0 m) s) e
 
 -- the pivot at the tableau u that the stages before q have led to

@@ -7,13 +7,13 @@ use Rattle.gates.specs.Row.{F, S, A, X, Z, C, W, run}
 use Rattle.tableau.specs.Tableau.{tableau_of, image, units, compose}
 use Rattle.tableau.specs.Inverse.{inverse}
 
-inverse_F : inverse 3 1 (tableau_of 3 1 (F 0 1 ∷ [])) ≡ tableau_of 3 1 (F 0 3 ∷ [])
+inverse_f : inverse 3 1 (tableau_of 3 1 (F 0 1 ∷ [])) ≡ tableau_of 3 1 (F 0 3 ∷ [])
 unfolding neg
-inverse_F = refl
+inverse_f = refl
 
-inverse_S : inverse 2 1 (tableau_of 2 1 (S 0 1 ∷ [])) ≡ tableau_of 2 1 (S 0 3 ∷ [])
+inverse_s : inverse 2 1 (tableau_of 2 1 (S 0 1 ∷ [])) ≡ tableau_of 2 1 (S 0 3 ∷ [])
 unfolding neg
-inverse_S = refl
+inverse_s = refl
 
 -- for an even d, a list of two qudits and the list that undoes it
 inverse_list : inverse 4 2 (tableau_of 4 2 (F 0 1 ∷ A 0 1 3 ∷ S 1 5 ∷ X 0 2 ∷ Z 1 3 ∷ [])) ≡ tableau_of 4 2 (Z 1 1 ∷ X 0 2 ∷ S 1 3 ∷ A 0 1 1 ∷ F 0 3 ∷ [])

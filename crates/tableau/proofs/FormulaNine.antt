@@ -34,7 +34,7 @@ around n m c i j = sum (2 * n) (λ k. c k i * sum (2 * n) (λ l. m k l * c l j))
 abbrev upper : (ℕ → ℕ → ℕ) → ℕ → ℕ → ℕ
 upper m i j = cond (ltb i j) (2 * m i j) (cond (eqb i j) (m i j) 0)
 
--- (9): h' = −C⁻ᵀ·(h + V_diag(Cᵀ·(2·P_upps(K) + P_diag(K))·C) − Cᵀ-as-V_diag(K)) modulo 2·d, where K = C⁻ᵀ·U·C⁻¹ and C⁻¹ is taken modulo d
+-- (9): h' = −C⁻ᵀ·(h + V_diag(Cᵀ·(2·P_upps(K) + P_diag(K))·C) − Cᵀ·V_diag(K)) modulo 2·d, where K = C⁻ᵀ·U·C⁻¹ and C⁻¹ is taken modulo d
 abbrev formula_nine : ℕ → ℕ → List Pauli → List ℕ
 formula_nine d n t =
     let c = entries_of n t in

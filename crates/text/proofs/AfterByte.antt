@@ -21,7 +21,7 @@ by_cond P true p q = p
 by_cond P false p q = q
 
 -- a field that holds a value has a byte
-used_one : (f : Field) (x : ℕ) → value_of f ≡ Is x → used f ≡ 1
+pub used_one : (f : Field) (x : ℕ) → value_of f ≡ Is x → used f ≡ 1
 used_one Empty x e = cc
 used_one (Number y) x e = refl
 used_one (Whole y) x e = refl

@@ -108,7 +108,8 @@ overflow_sub-opposite c = let p = up_place (given c.requires.below c.requires.di
 pub next_sum-down-requires : goal.next_sum-down-requires
 next_sum-down-requires c =
     let g = given c.requires.below c.requires.divisor in
-    (down_below g c.loop-b.invariant, rw (c.below-back.ensures, c.value.ensures) (back_below g))
+    let back : c.below-back.result.0 < c.args.d = rw (c.below-back.ensures, c.value.ensures) (back_below g) in
+    (down_below g c.loop-b.invariant, omega (arith, back, c.requires.below))
 
 pub loop-b-smaller : goal.loop-b-smaller
 loop-b-smaller c = let p = up_place (given c.requires.below c.requires.divisor) c.loop-b.invariant in omega (arith, p)

@@ -62,14 +62,14 @@ effect_a-requires c =
     let r = one c.requires.dimension c.requires.legal in
     let e : c.args.self.kind ≡ 3 = omega arith in
     let s = two _ _ _ r.few c.requires.legal (ap takes_two e) in
-    (r.dimension, (r.place, (s.place, s.apart)))
+    (r.dimension, (omega (arith, r.place, s.place), (omega (arith, r.place, s.place), λ f. s.apart (omega arith))))
 
 pub returns-then-kind-lt4 : goal.returns-then-kind-lt4
 returns-then-kind-lt4 c =
     let r = one c.requires.dimension c.requires.legal in
     let e : c.args.self.kind ≡ 3 = omega arith in
     let s = two _ _ _ r.few c.requires.legal (ap takes_two e) in
-    record { value = c.effect_a.ensures.value _ r.first s.second r.few ∙ of_kind_lem _ _ 3 _ e; word = c.effect_a.ensures.word _ r.first s.second r.few }
+    record { value = c.effect_a.ensures.value _ (omega (arith, r.first, s.second)) (omega (arith, r.first, s.second)) r.few ∙ of_kind_lem _ _ 3 _ e; word = c.effect_a.ensures.word _ (omega (arith, r.first, s.second)) (omega (arith, r.first, s.second)) r.few }
 
 pub below-requires : goal.below-requires
 below-requires c = let r = one c.requires.dimension c.requires.legal in (legal_unit _ _ _ c.requires.legal (omega arith)).0
