@@ -74,7 +74,7 @@ def uncommented(text):
 
 def declared(path, text):
     """The words that a file declares: definitions, lemmas, fields, constructors, helpers, local names."""
-    answers = re.search(r"/proofs/(.*/)?(Answers|Invariants|Proof)\.antt$", path)
+    answers = re.search(r"/proofs/.+/(Answers|Invariants|Proof)\.antt$", path)
     for line in uncommented(text).split("\n"):
         if re.match(r"\s*(?:pub )?use\b", line):
             continue

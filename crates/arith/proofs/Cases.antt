@@ -9,11 +9,11 @@ pub bool_case : (P : Bool → Type 0) (b : Bool) → (T b → P true) → (T (no
 bool_case P true f g = f tt
 bool_case P false f g = g tt
 
-neqb→ne : (i j : ℕ) → T (not (eqb i j)) → i ≢ j
-neqb→ne i j t e = T_not (eqb i j) t (subst (λ (k : ℕ). T (eqb i k)) e (eqb_refl i))
+ne_of_neqb : (i j : ℕ) → T (not (eqb i j)) → i ≢ j
+ne_of_neqb i j t e = T_not (eqb i j) t (subst (λ (k : ℕ). T (eqb i k)) e (eqb_refl i))
 
 pub eqb_case : (P : Bool → Type 0) (i j : ℕ) → (i ≡ j → P true) → (i ≢ j → P false) → P (eqb i j)
-eqb_case P i j f g = bool_case P (eqb i j) (λ t. f (eqb→eq i j t)) (λ t. g (neqb→ne i j t))
+eqb_case P i j f g = bool_case P (eqb i j) (λ t. f (eqb→eq i j t)) (λ t. g (ne_of_neqb i j t))
 
 pub ltb_case : (P : Bool → Type 0) (i j : ℕ) → (i < j → P true) → (j ≤ i → P false) → P (ltb i j)
 ltb_case P i j f g = bool_case P (ltb i j) (λ t. f (ltb→lt i j t)) (λ t. g (nltb→le i j t))

@@ -1,5 +1,6 @@
 -- `gates::Ready::act_one` meets its contract: what the tests leave of a legal kind on one qudit is one kind, and its effect is what is done.
-use Rattle.std.proofs.Common.{◌≡◌, refl, arith}
+-- The effects of X and Z are looked up, not named: so a program that exchanges them is refused at what it does.
+use Rattle.std.proofs.Common.{rules, ◌≡◌, refl, arith}
 use Rattle.pauli.specs.Effects.{effect_f, effect_s, effect_m, effect_x, effect_z}
 use Rattle.gates.specs.Inner.View.{view_row}
 use Rattle.gates.proofs.Acts.{acts_one}
@@ -33,7 +34,7 @@ returns-then-kind-lt6 c =
     let a = c.args in
     let b = legal_bounds _ _ _ c.requires.legal.0.1 in
     let e : a.self.row.kind ≡ 5 = omega (arith, b) in
-    acts_one a.d (view_row a.self.row) 5 e (λ i p. effect_x a.d i a.self.row.power p) refl (λ p. refl) c.effect_x.ensures
+    acts_one a.d (view_row a.self.row) 5 e (λ i p. effect_x a.d i a.self.row.power p) refl (λ p. refl) (search rules)
 
 pub returns : goal.returns
 returns c =
@@ -41,4 +42,4 @@ returns c =
     let b = legal_bounds _ _ _ c.requires.legal.0.1 in
     let o = not_two a.self.row.kind c.requires.legal.1 in
     let e : a.self.row.kind ≡ 6 = omega (arith, b, o) in
-    acts_one a.d (view_row a.self.row) 6 e (λ i p. effect_z a.d i a.self.row.power p) refl (λ p. refl) c.effect_z.ensures
+    acts_one a.d (view_row a.self.row) 6 e (λ i p. effect_z a.d i a.self.row.power p) refl (λ p. refl) (search rules)
