@@ -61,7 +61,7 @@ impl Touched {
         on_one(phase.within(d), x.negative(d), z.negative(d))
     }
 
-    // F: k times, by two as far as k goes.
+    // F: k times. Two at a time, and one more where k is odd.
     pub fn effect_f(self, k: Power, d: u16) -> Touched
         requires { Dimension d }
         ensures { OnOne (λ i p. effect_f d i k.0 p) (view_touched self) (view_touched result) }
