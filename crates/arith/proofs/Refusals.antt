@@ -1,6 +1,7 @@
 -- Laws of the refusals' numbers: what is known past a check, and what a call hands back where one refuses. Assumes nothing.
 use mathlib.Core.Path.{◌≡◌, refl, sym, ◌∙◌, ap}
 use mathlib.Core.List.{List}
+use Rattle.std.specs.Prelude.{Result, Ok, Err}
 use mathlib.Core.Logic.{◌≢◌}
 use mathlib.Core.Bool.{Bool, true, false, ◌&&◌}
 use Prim.Native.Nat.{ℕ, zero, suc, ◌*◌, ◌/◌, ◌%◌, ◌≤◌, ◌<◌}
@@ -10,22 +11,20 @@ use borrow.Author.Tests.{leb-true, ltb-true, eqb-true}
 use Rattle.arith.specs.Bytes.{front}
 use Rattle.arith.specs.Answers.{Answered, Written}
 use Rattle.arith.specs.Refusals.{refusal_number, number_of, or_else, unless, kept, unless_holds, dimension_of, width_of, given_of, size_of, whole_of, list_size_of, room_of, range_of, row_of, pairing_of, parity_of, Dimension, Width}
-use Rattle.arith.specs.declared.checks.Check.{Check}
-use Rattle.arith.specs.declared.checks.Check.TheVariants.{Good, Refused}
 use Rattle.arith.specs.declared.checks.Refusal.{Refusal}
 use Rattle.arith.specs.declared.checks.Refusal.TheVariants as refusal
 use Rattle.arith.specs.declared.checks.Answer.{Answer}
 
 -- ---- the answer r of a check that found x
--- it is Good: x is 0
-pub good : (x : ℕ) {r : Check} → number_of r ≡ x → r ≡ Good → x ≡ 0
+-- it is Ok: x is 0
+pub good : {A : Type 0} (x : ℕ) {r : Result A Refusal} {a : A} → number_of r ≡ x → r ≡ Ok a → x ≡ 0
 good x e g = sym e ∙ ap number_of g
 
-pub passes : (x : ℕ) → x ≡ 0 → number_of Good ≡ x
-passes x e = sym e
+pub passes : {A : Type 0} (a : A) (x : ℕ) → x ≡ 0 → number_of {A = A} (Ok a) ≡ x
+passes a x e = sym e
 
 -- it refuses: z is the first refusal, whatever comes after, a result is 0, and an output is as it was
-pub record Stops (r : Check) (z : ℕ) : Type 0 where
+pub record Stops {A : Type 0} (r : Result A Refusal) (z : ℕ) : Type 0 where
   pub same : number_of r ≡ z
   pub value : (v : ℕ) → 0 ≡ unless z v
   pub out : (old new : List ℕ) → old ≡ kept z old new
@@ -43,26 +42,26 @@ refusal_number_lem refusal.Parity = omega arith
 refusal_number_lem refusal.Text = omega arith
 
 -- so the answer of a check that refuses has another
-pub not_zero : {k : Refusal} {r : Check} → number_of r ≡ 0 → r ≡ Refused k → ⊥
-not_zero {k} e g = let z = sym (ap number_of g) ∙ e in omega (arith, z, refusal_number_lem k)
+pub not_zero : {A : Type 0} {k : Refusal} {r : Result A Refusal} → number_of r ≡ 0 → r ≡ Err k → ⊥
+not_zero {k = k} e g = let z = sym (ap number_of g) ∙ e in omega (arith, z, refusal_number_lem k)
 
-pub stop_last : (x : ℕ) {k : Refusal} {r : Check} → number_of r ≡ x → r ≡ Refused k → Stops r x
+pub stop_last : {A : Type 0} (x : ℕ) {k : Refusal} {r : Result A Refusal} → number_of r ≡ x → r ≡ Err k → Stops r x
 stop_last zero e g = absurd (not_zero e g)
 stop_last (suc x) e g = record { same = e; value = λ v. refl; out = λ old new. refl }
 
-pub stop : (x y : ℕ) {k : Refusal} {r : Check} → number_of r ≡ x → r ≡ Refused k → Stops r (or_else x y)
+pub stop : {A : Type 0} (x y : ℕ) {k : Refusal} {r : Result A Refusal} → number_of r ≡ x → r ≡ Err k → Stops r (or_else x y)
 stop zero y e g = absurd (not_zero e g)
 stop (suc x) y e g = stop_last (suc x) e g
 
 -- its number isn't 0
-pub stops_some : {r : Check} {z : ℕ} → Stops r z → z ≢ 0
+pub stops_some : {A : Type 0} {r : Result A Refusal} {z : ℕ} → Stops r z → z ≢ 0
 stops_some {z = z} s e = let o : ◌≡◌ {A = ℕ} 0 1 = s.value 1 ∙ ap (λ (x : ℕ). unless x 1) e in omega arith
 
 -- what a refused call promises
-pub stop_answered : {r : Check} {z : ℕ} {a : Answer} (v : ℕ) → Stops r z → (a.number ≡ number_of r) × (a.value ≡ 0) → Answered z v a
+pub stop_answered : {A : Type 0} {r : Result A Refusal} {z : ℕ} {a : Answer} (v : ℕ) → Stops r z → (a.number ≡ number_of r) × (a.value ≡ 0) → Answered z v a
 stop_answered v s e = record { number = e.0 ∙ s.same; value = e.1 ∙ s.value v }
 
-pub stop_written : {r : Check} {z x : ℕ} (answer old : List ℕ) → Stops r z → x ≡ number_of r → Written z answer old old x
+pub stop_written : {A : Type 0} {r : Result A Refusal} {z x : ℕ} (answer old : List ℕ) → Stops r z → x ≡ number_of r → Written z answer old old x
 stop_written answer old s e = record { number = e ∙ s.same; out = s.out old (front answer old) }
 
 -- what an accepted call promises
@@ -94,10 +93,10 @@ or_else_assoc zero b c = refl
 or_else_assoc (suc a) b c = refl
 
 -- ---- a call that tests in two parts: the first refuses; it has passed, and the second refuses, or answers
-pub stop_first : {z : ℕ} (x y : ℕ) {k : Refusal} {r : Check} → z ≡ or_else x y → number_of r ≡ x → r ≡ Refused k → Stops r z
+pub stop_first : {A : Type 0} {z : ℕ} (x y : ℕ) {k : Refusal} {r : Result A Refusal} → z ≡ or_else x y → number_of r ≡ x → r ≡ Err k → Stops r z
 stop_first x y s e g = rw s (stop x y e g)
 
-pub stop_second : {z : ℕ} (x y : ℕ) {k : Refusal} {r : Check} → z ≡ or_else x y → x ≡ 0 → number_of r ≡ y → r ≡ Refused k → Stops r z
+pub stop_second : {A : Type 0} {z : ℕ} (x y : ℕ) {k : Refusal} {r : Result A Refusal} → z ≡ or_else x y → x ≡ 0 → number_of r ≡ y → r ≡ Err k → Stops r z
 stop_second x y s e f g = rw (s ∙ or_else_skip y e) (stop_last y f g)
 
 pub written_second : {z r : ℕ} (x y : ℕ) {answer old new : List ℕ} → z ≡ or_else x y → x ≡ 0 → Written y answer old new r → Written z answer old new r

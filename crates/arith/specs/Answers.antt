@@ -1,8 +1,14 @@
 -- What a public call promises, by its refusal (a number of the table, 0 for none) and its answer.
-use Rattle.std.specs.Prelude.{◌≡◌, List, ℕ}
+use Rattle.std.specs.Prelude.{◌≡◌, Result, Ok, Err, List, ℕ}
 use Rattle.arith.specs.Bytes.{front}
-use Rattle.arith.specs.Refusals.{unless, kept}
+use Rattle.arith.specs.Refusals.{refusal_number, unless, kept}
 use Rattle.arith.specs.declared.checks.Answer.{Answer}
+use Rattle.arith.specs.declared.checks.Refusal.{Refusal}
+
+-- what C is handed of a call with one number as its result: the refusal's number, or 0, and the result, or 0
+abbrev pub answer_of : Result ℕ Refusal → Answer
+answer_of (Ok x) = record { number = 0; value = x }
+answer_of (Err k) = record { number = refusal_number k; value = 0 }
 
 -- a call with one number as its result: the refusal's number, and the result, which is 0 of a refused call
 pub record Answered (refusal result : ℕ) (r : Answer) : Type 0 where

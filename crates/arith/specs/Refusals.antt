@@ -1,7 +1,5 @@
 -- The refusals of document 01's table: each is its number where its condition holds, else 0.
-use Rattle.std.specs.Prelude.{List, Bool, ◌&&◌, cond, ℕ, zero, suc, ◌/◌, ◌%◌, ◌≤◌, leb, ltb, eqb}
-use Rattle.arith.specs.declared.checks.Check.{Check}
-use Rattle.arith.specs.declared.checks.Check.TheVariants.{Good, Refused}
+use Rattle.std.specs.Prelude.{Result, Ok, Err, List, Bool, ◌&&◌, cond, ℕ, zero, suc, ◌/◌, ◌%◌, ◌≤◌, leb, ltb, eqb}
 use Rattle.arith.specs.declared.checks.Refusal.{Refusal}
 use Rattle.arith.specs.declared.checks.Refusal.TheVariants as refusal
 
@@ -17,10 +15,10 @@ refusal_number refusal.Pairing = 7
 refusal_number refusal.Parity = 8
 refusal_number refusal.Text = 9
 
--- the number of what a check found: 0 for nothing
-abbrev pub number_of : Check → ℕ
-number_of Good = 0
-number_of (Refused k) = refusal_number k
+-- the number of what a check or a call answers: 0 where nothing is refused
+abbrev pub number_of : {A : Type 0} → Result A Refusal → ℕ
+number_of (Ok a) = 0
+number_of (Err k) = refusal_number k
 
 -- the number of a refusal, unless the test holds
 abbrev pub unless_holds : Refusal → Bool → ℕ

@@ -1,9 +1,13 @@
-// The checks of refusals 1 to 5, which answer an enum: the first that refuses ends a call.
+// The checks of refusals 1 to 5, which answer a Result: the first that refuses ends a call.
 ghost use Rattle.std.specs.Prelude.{◌≡◌, ◌<◌};
-ghost use Rattle.arith.specs.Refusals.{refusal_number, number_of, or_else, dimension_of, width_of, given_of, size_of, whole_of, list_size_of, room_of, range_of};
+ghost use Rattle.arith.specs.Refusals.{refusal_number, number_of, or_else, size_of, whole_of, list_size_of, room_of, range_of};
+ghost use Rattle.arith.specs.Answers.{answer_of};
+
+use std::error::Error;
+use std::fmt;
 
 // The refusals of document 01's table.
-#[derive(Clone, Copy)]
+#[derive(Clone, Copy, Debug, PartialEq, Eq)]
 pub enum Refusal {
     // d below 2 or above 1,024
     Dimension,
@@ -25,14 +29,44 @@ pub enum Refusal {
     Text,
 }
 
-// What a check finds: nothing, or a refusal.
-#[derive(Clone, Copy)]
-pub enum Check {
-    Good,
-    Refused(Refusal),
+// The number of a refusal.
+impl From<Refusal> for u16 {
+    ghost from_gives = { λ k r. r ≡ refusal_number k };
+
+    fn from(refusal: Refusal) -> u16 {
+        match refusal {
+            Refusal::Dimension => 1,
+            Refusal::Width => 2,
+            Refusal::Length => 3,
+            Refusal::Room => 4,
+            Refusal::Range => 5,
+            Refusal::Row => 6,
+            Refusal::Pairing => 7,
+            Refusal::Parity => 8,
+            Refusal::Text => 9,
+        }
+    }
 }
 
-// What a call with one number as its result hands back.
+impl fmt::Display for Refusal {
+    fn fmt<W: fmt::Write>(&self, f: &mut fmt::Formatter<W>) -> fmt::Result {
+        f.write_str(match self {
+            Refusal::Dimension => "the dimension is below 2 or above 1,024",
+            Refusal::Width => "the number of qudits is 0 or above 16",
+            Refusal::Length => "an input is not as long as its layout says",
+            Refusal::Room => "an output is too short",
+            Refusal::Range => "a number is out of range",
+            Refusal::Row => "a row is not legal",
+            Refusal::Pairing => "a commutation number of two columns is wrong",
+            Refusal::Parity => "a column's sum is odd",
+            Refusal::Text => "a line breaks the layout",
+        })
+    }
+}
+
+impl Error for Refusal {}
+
+// What a call with one number as its result hands back to C, which has no Result.
 #[repr(C)]
 #[derive(Clone, Copy)]
 pub struct Answer {
@@ -40,144 +74,84 @@ pub struct Answer {
     pub value: u16,
 }
 
-// The number of a refusal.
-pub fn refusal_number(refusal: Refusal) -> u16
-    ensures { result ≡ refusal_number refusal }
-{
-    match refusal {
-        Refusal::Dimension => 1,
-        Refusal::Width => 2,
-        Refusal::Length => 3,
-        Refusal::Room => 4,
-        Refusal::Range => 5,
-        Refusal::Row => 6,
-        Refusal::Pairing => 7,
-        Refusal::Parity => 8,
-        Refusal::Text => 9,
+impl From<Result<u16, Refusal>> for Answer {
+    ghost from_gives = { λ r a. a ≡ answer_of r };
+
+    fn from(found: Result<u16, Refusal>) -> Answer {
+        match found {
+            Ok(value) => Answer { number: 0, value },
+            Err(refusal) => Answer {
+                number: refusal.into(),
+                value: 0,
+            },
+        }
     }
 }
 
-// The number of what a check found.
-pub fn number(found: Check) -> u16
+// The number of what a check or a call answers.
+pub fn number(found: Result<(), Refusal>) -> u16
     ensures { result ≡ number_of found }
 {
     match found {
-        Check::Good => 0,
-        Check::Refused(refusal) => refusal_number(refusal),
+        Ok(()) => 0,
+        Err(refusal) => refusal.into(),
     }
-}
-
-#[tactic(auto, unfolding(crate::specs::Refusals::dimension_of))]
-pub fn dimension(d: u16) -> Check
-    ensures { number_of result ≡ dimension_of d }
-{
-    if d < 2 {
-        return Check::Refused(Refusal::Dimension);
-    }
-    if 1024 < d {
-        return Check::Refused(Refusal::Dimension);
-    }
-    Check::Good
-}
-
-#[tactic(auto, unfolding(crate::specs::Refusals::width_of))]
-pub fn width(n: u16) -> Check
-    ensures { number_of result ≡ width_of n }
-{
-    if n < 1 {
-        return Check::Refused(Refusal::Width);
-    }
-    if 16 < n {
-        return Check::Refused(Refusal::Width);
-    }
-    Check::Good
-}
-
-// 1, then 2.
-#[tactic(auto, unfolding(crate::specs::Refusals::given_of))]
-pub fn given(d: u16, n: u16) -> Check
-    ensures { number_of result ≡ given_of d n }
-{
-    let of_d = dimension(d);
-    let Check::Good = of_d else {
-        return of_d;
-    };
-    width(n)
 }
 
 #[tactic(auto, unfolding(crate::specs::Refusals::size_of))]
-pub fn size(want: usize, have: usize) -> Check
+pub fn size(want: usize, have: usize) -> Result<(), Refusal>
     ensures { number_of result ≡ size_of want have }
 {
-    if have == want {
-        return Check::Good;
+    if have != want {
+        return Err(Refusal::Length);
     }
-    Check::Refused(Refusal::Length)
+    Ok(())
 }
 
 // Whole items of `one` bytes, at most `most` of them.
 #[tactic(auto, unfolding(crate::specs::Refusals::whole_of))]
-pub fn whole(one: usize, most: usize, have: usize) -> Check
+pub fn whole(one: usize, most: usize, have: usize) -> Result<(), Refusal>
     requires { 0 < one }
     ensures { number_of result ≡ whole_of one most have }
 {
-    let over = have % one;
-    if over != 0 {
-        return Check::Refused(Refusal::Length);
+    if have % one != 0 || most < have / one {
+        return Err(Refusal::Length);
     }
-    let count = have / one;
-    if most < count {
-        return Check::Refused(Refusal::Length);
-    }
-    Check::Good
+    Ok(())
 }
 
 // A list: whole rows of 8 bytes, at most 4,096 of them.
 #[tactic(auto, unfolding(crate::specs::Refusals::list_size_of))]
-pub fn list_size(have: usize) -> Check
+pub fn list_size(have: usize) -> Result<(), Refusal>
     ensures { number_of result ≡ list_size_of have }
 {
     whole(8, 4096, have)
 }
 
-// 1, 2, then 3 of a list.
-pub fn given_list(d: u16, n: u16, have: usize) -> Check
-    ensures { number_of result ≡ or_else (given_of d n) (list_size_of have) }
-{
-    let of_given = given(d, n);
-    let Check::Good = of_given else {
-        return of_given;
-    };
-    list_size(have)
-}
-
 #[tactic(auto, unfolding(crate::specs::Refusals::room_of))]
-pub fn room(want: usize, have: usize) -> Check
+pub fn room(want: usize, have: usize) -> Result<(), Refusal>
     ensures { number_of result ≡ room_of want have }
 {
     if have < want {
-        return Check::Refused(Refusal::Room);
+        return Err(Refusal::Room);
     }
-    Check::Good
+    Ok(())
 }
 
 // 3 of an input, then 4 of an output.
-pub fn lent(want: usize, have: usize, answer: usize, space: usize) -> Check
+pub fn lent(want: usize, have: usize, answer: usize, space: usize) -> Result<(), Refusal>
     ensures { number_of result ≡ or_else (size_of want have) (room_of answer space) }
 {
-    let length = size(want, have);
-    let Check::Good = length else {
-        return length;
-    };
+    size(want, have)?;
     room(answer, space)
 }
 
 #[tactic(auto, unfolding(crate::specs::Refusals::range_of))]
-pub fn range(bound: u16, x: u16) -> Check
+pub fn range(bound: u16, x: u16) -> Result<(), Refusal>
     ensures { number_of result ≡ range_of bound x }
 {
-    if x < bound {
-        return Check::Good;
+    if bound <= x {
+        return Err(Refusal::Range);
     }
-    Check::Refused(Refusal::Range)
+    Ok(())
 }

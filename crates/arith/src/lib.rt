@@ -5,5 +5,6 @@
 pub mod calls;
 pub mod checks;
 pub mod divisor;
+pub mod modulus;
 pub mod numbers;
 pub mod residue;

@@ -1,109 +1,128 @@
-// The calls of the C interface, each with the whole contract of the call that it makes, for a caller in Rattle. The crate clifford_c exports them.
+// The calls for a caller in Rattle, each with the whole contract of the call that it makes: a Result, which says what was refused. The crate clifford_c hands them on to C.
 
 #![tactic(auto)]
 
 ghost use Rattle.std.specs.Prelude.{◌≡◌, length};
 ghost use Rattle.arith.specs.Units.{least_multiplier};
-ghost use Rattle.arith.specs.Answers.{Answered, Written};
+ghost use Rattle.arith.specs.Refusals.{number_of};
+ghost use Rattle.arith.specs.Answers.{Answered, Written, answer_of};
 ghost use Rattle.arith.specs.Calls.{multiplier_refusal};
-ghost use Rattle.pauli.specs.Calls.{product_refusal, product_bytes, power_refusal, power_bytes, commutation_refusal, commutation_number, Supported};
+ghost use Rattle.pauli.specs.Calls.{product_refusal, product_bytes, power_refusal, power_bytes, commutation_refusal, commutation_number, Supported, support_answer_of};
 ghost use Rattle.gates.specs.Calls.{run_refusal, run_bytes, ticks_refusal, ticks_of};
 ghost use Rattle.synthesis.specs.Demand3.{Synthesised};
 ghost use Rattle.synthesis.specs.Chosen.{Chosen};
 ghost use Rattle.tableau.specs.Batch.{images_refusal, images_answer};
 ghost use Rattle.tableau.specs.Calls.{tableau_refusal, tableau_answer, image_refusal, image_answer, compose_refusal, compose_answer, inverse_refusal, inverse_answer};
 
-use arith::checks::Answer;
-use pauli::calls::SupportAnswer;
+use arith::checks::Refusal;
+use pauli::calls::QuditSupport;
 
 // The least multiplier of a and b: of 0, 1, −1, 2, −2 and on the first that fits, as a residue.
-pub fn clifford_least_multiplier(d: u16, a: u16, b: u16) -> Answer
-    ensures { Answered (multiplier_refusal d a b) (least_multiplier d a b) result }
+pub fn clifford_least_multiplier(d: u16, a: u16, b: u16) -> Result<u16, Refusal>
+    ensures { Answered (multiplier_refusal d a b) (least_multiplier d a b) (answer_of result) }
 {
     arith::calls::least_multiplier(d, a, b)
 }
 
 // The product of p and q, in this order.
-pub fn clifford_product(d: u16, n: u16, p: &[u8], q: &[u8], out: &mut [u8]) -> u16
-    ensures { Written (product_refusal d n p.now q.now (length out.old)) (product_bytes d n p.now q.now) out.old out.new result }
+pub fn clifford_product(d: u16, n: u16, p: &[u8], q: &[u8], out: &mut [u8]) -> Result<(), Refusal>
+    ensures { Written (product_refusal d n p.now q.now (length out.old)) (product_bytes d n p.now q.now) out.old out.new (number_of result) }
 {
     pauli::calls::product(d, n, p, q, out)
 }
 
 // p to the power k.
-pub fn clifford_power(d: u16, n: u16, p: &[u8], k: u16, out: &mut [u8]) -> u16
-    ensures { Written (power_refusal d n p.now (length out.old)) (power_bytes d n p.now k) out.old out.new result }
+pub fn clifford_power(d: u16, n: u16, p: &[u8], k: u16, out: &mut [u8]) -> Result<(), Refusal>
+    ensures { Written (power_refusal d n p.now (length out.old)) (power_bytes d n p.now k) out.old out.new (number_of result) }
 {
     pauli::calls::power(d, n, p, k, out)
 }
 
 // The commutation number of p and q.
-pub fn clifford_commutation(d: u16, n: u16, p: &[u8], q: &[u8]) -> Answer
-    ensures { Answered (commutation_refusal d n p.now q.now) (commutation_number d n p.now q.now) result }
+pub fn clifford_commutation(d: u16, n: u16, p: &[u8], q: &[u8]) -> Result<u16, Refusal>
+    ensures { Answered (commutation_refusal d n p.now q.now) (commutation_number d n p.now q.now) (answer_of result) }
 {
     pauli::calls::commutation(d, n, p, q)
 }
 
 // The support word of p, and the number of qudits that it touches.
-pub fn clifford_support(d: u16, n: u16, p: &[u8]) -> SupportAnswer
-    ensures { Supported d n p.now result }
+pub fn clifford_support(d: u16, n: u16, p: &[u8]) -> Result<QuditSupport, Refusal>
+    ensures { Supported d n p.now (support_answer_of result) }
 {
     pauli::calls::support(d, n, p)
 }
 
 // What the list carries p to.
-pub fn clifford_run(d: u16, n: u16, list: &[u8], p: &[u8], out: &mut [u8]) -> u16
-    ensures { Written (run_refusal d n list.now p.now (length out.old)) (run_bytes d n list.now p.now) out.old out.new result }
+pub fn clifford_run(d: u16, n: u16, list: &[u8], p: &[u8], out: &mut [u8]) -> Result<(), Refusal>
+    ensures { Written (run_refusal d n list.now p.now (length out.old)) (run_bytes d n list.now p.now) out.old out.new (number_of result) }
 {
     gates::calls::run(d, n, list, p, out)
 }
 
 // The tableau of the list.
-pub fn clifford_tableau(d: u16, n: u16, list: &[u8], out: &mut [u8]) -> u16
-    ensures { Written (tableau_refusal d n list.now (length out.old)) (tableau_answer d n list.now) out.old out.new result }
+pub fn clifford_tableau(d: u16, n: u16, list: &[u8], out: &mut [u8]) -> Result<(), Refusal>
+    ensures { Written (tableau_refusal d n list.now (length out.old)) (tableau_answer d n list.now) out.old out.new (number_of result) }
 {
     tableau::calls::tableau_of(d, n, list, out)
 }
 
 // A list that does the tableau, and its number of rows.
-pub fn clifford_synthesis(d: u16, n: u16, tableau: &[u8], out: &mut [u8]) -> Answer
-    ensures synthesised { Synthesised d n tableau.now out.old out.new result }
-    ensures chosen { Chosen d n tableau.now out.new result }
+pub fn clifford_synthesis(d: u16, n: u16, tableau: &[u8], out: &mut [u8]) -> Result<u16, Refusal>
+    ensures synthesised { Synthesised d n tableau.now out.old out.new (answer_of result) }
+    ensures chosen { Chosen d n tableau.now out.new (answer_of result) }
 {
     synthesis::calls::synthesis(d, n, tableau, out)
 }
 
 // The image of p under the tableau.
-pub fn clifford_image(d: u16, n: u16, tableau: &[u8], p: &[u8], out: &mut [u8]) -> u16
-    ensures { Written (image_refusal d n tableau.now p.now (length out.old)) (image_answer d n tableau.now p.now) out.old out.new result }
+pub fn clifford_image(
+    d: u16,
+    n: u16,
+    tableau: &[u8],
+    p: &[u8],
+    out: &mut [u8],
+) -> Result<(), Refusal>
+    ensures { Written (image_refusal d n tableau.now p.now (length out.old)) (image_answer d n tableau.now p.now) out.old out.new (number_of result) }
 {
     tableau::calls::image(d, n, tableau, p, out)
 }
 
 // The images of up to 512 Paulis, end to end, under the tableau: as single calls made in order answer.
-pub fn clifford_images(d: u16, n: u16, tableau: &[u8], paulis: &[u8], out: &mut [u8]) -> u16
-    ensures { Written (images_refusal d n tableau.now paulis.now (length out.old)) (images_answer d n tableau.now paulis.now) out.old out.new result }
+pub fn clifford_images(
+    d: u16,
+    n: u16,
+    tableau: &[u8],
+    paulis: &[u8],
+    out: &mut [u8],
+) -> Result<(), Refusal>
+    ensures { Written (images_refusal d n tableau.now paulis.now (length out.old)) (images_answer d n tableau.now paulis.now) out.old out.new (number_of result) }
 {
     tableau::batch::images(d, n, tableau, paulis, out)
 }
 
 // The first tableau, then the second.
-pub fn clifford_compose(d: u16, n: u16, first: &[u8], second: &[u8], out: &mut [u8]) -> u16
-    ensures { Written (compose_refusal d n first.now second.now (length out.old)) (compose_answer d n first.now second.now) out.old out.new result }
+pub fn clifford_compose(
+    d: u16,
+    n: u16,
+    first: &[u8],
+    second: &[u8],
+    out: &mut [u8],
+) -> Result<(), Refusal>
+    ensures { Written (compose_refusal d n first.now second.now (length out.old)) (compose_answer d n first.now second.now) out.old out.new (number_of result) }
 {
     tableau::calls::compose(d, n, first, second, out)
 }
 
 // The tableau that undoes the given one.
-pub fn clifford_inverse(d: u16, n: u16, tableau: &[u8], out: &mut [u8]) -> u16
-    ensures { Written (inverse_refusal d n tableau.now (length out.old)) (inverse_answer d n tableau.now) out.old out.new result }
+pub fn clifford_inverse(d: u16, n: u16, tableau: &[u8], out: &mut [u8]) -> Result<(), Refusal>
+    ensures { Written (inverse_refusal d n tableau.now (length out.old)) (inverse_answer d n tableau.now) out.old out.new (number_of result) }
 {
     tableau::calls::inverse(d, n, tableau, out)
 }
 
 // The ticks of the list, where rows on separate qudits run in the same one: the highest tick used.
-pub fn clifford_ticks(d: u16, n: u16, list: &[u8]) -> Answer
-    ensures { Answered (ticks_refusal d n list.now) (ticks_of list.now) result }
+pub fn clifford_ticks(d: u16, n: u16, list: &[u8]) -> Result<u16, Refusal>
+    ensures { Answered (ticks_refusal d n list.now) (ticks_of list.now) (answer_of result) }
 {
     gates::calls::ticks(d, n, list)
 }

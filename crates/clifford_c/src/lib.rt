@@ -1,4 +1,4 @@
-// The C interface: an export for each call of the crate clifford, with the same contract. include/clifford.h has the prototypes.
+// The C interface: an export for each call of the crate clifford, whose Result is handed on in C's layout: a refusal's number, or 0, and beside it what was asked. include/clifford.h has the prototypes.
 // A slice passes as a pointer and a length.
 
 #![tactic(auto)]
@@ -14,7 +14,7 @@ ghost use Rattle.synthesis.specs.Chosen.{Chosen};
 ghost use Rattle.tableau.specs.Batch.{images_refusal, images_answer};
 ghost use Rattle.tableau.specs.Calls.{tableau_refusal, tableau_answer, image_refusal, image_answer, compose_refusal, compose_answer, inverse_refusal, inverse_answer};
 
-use arith::checks::Answer;
+use arith::checks::{Answer, number};
 use pauli::calls::SupportAnswer;
 
 // The least multiplier of a and b: of 0, 1, −1, 2, −2 and on the first that fits, as a residue.
@@ -22,7 +22,7 @@ use pauli::calls::SupportAnswer;
 pub extern "C" fn clifford_least_multiplier(d: u16, a: u16, b: u16) -> Answer
     ensures { Answered (multiplier_refusal d a b) (least_multiplier d a b) result }
 {
-    clifford::clifford_least_multiplier(d, a, b)
+    Answer::from(clifford::clifford_least_multiplier(d, a, b))
 }
 
 // The product of p and q, in this order.
@@ -30,7 +30,7 @@ pub extern "C" fn clifford_least_multiplier(d: u16, a: u16, b: u16) -> Answer
 pub extern "C" fn clifford_product(d: u16, n: u16, p: &[u8], q: &[u8], out: &mut [u8]) -> u16
     ensures { Written (product_refusal d n p.now q.now (length out.old)) (product_bytes d n p.now q.now) out.old out.new result }
 {
-    clifford::clifford_product(d, n, p, q, out)
+    number(clifford::clifford_product(d, n, p, q, out))
 }
 
 // p to the power k.
@@ -38,7 +38,7 @@ pub extern "C" fn clifford_product(d: u16, n: u16, p: &[u8], q: &[u8], out: &mut
 pub extern "C" fn clifford_power(d: u16, n: u16, p: &[u8], k: u16, out: &mut [u8]) -> u16
     ensures { Written (power_refusal d n p.now (length out.old)) (power_bytes d n p.now k) out.old out.new result }
 {
-    clifford::clifford_power(d, n, p, k, out)
+    number(clifford::clifford_power(d, n, p, k, out))
 }
 
 // The commutation number of p and q.
@@ -46,7 +46,7 @@ pub extern "C" fn clifford_power(d: u16, n: u16, p: &[u8], k: u16, out: &mut [u8
 pub extern "C" fn clifford_commutation(d: u16, n: u16, p: &[u8], q: &[u8]) -> Answer
     ensures { Answered (commutation_refusal d n p.now q.now) (commutation_number d n p.now q.now) result }
 {
-    clifford::clifford_commutation(d, n, p, q)
+    Answer::from(clifford::clifford_commutation(d, n, p, q))
 }
 
 // The support word of p, and the number of qudits that it touches.
@@ -54,7 +54,7 @@ pub extern "C" fn clifford_commutation(d: u16, n: u16, p: &[u8], q: &[u8]) -> An
 pub extern "C" fn clifford_support(d: u16, n: u16, p: &[u8]) -> SupportAnswer
     ensures { Supported d n p.now result }
 {
-    clifford::clifford_support(d, n, p)
+    SupportAnswer::from(clifford::clifford_support(d, n, p))
 }
 
 // What the list carries p to.
@@ -62,7 +62,7 @@ pub extern "C" fn clifford_support(d: u16, n: u16, p: &[u8]) -> SupportAnswer
 pub extern "C" fn clifford_run(d: u16, n: u16, list: &[u8], p: &[u8], out: &mut [u8]) -> u16
     ensures { Written (run_refusal d n list.now p.now (length out.old)) (run_bytes d n list.now p.now) out.old out.new result }
 {
-    clifford::clifford_run(d, n, list, p, out)
+    number(clifford::clifford_run(d, n, list, p, out))
 }
 
 // The tableau of the list.
@@ -70,7 +70,7 @@ pub extern "C" fn clifford_run(d: u16, n: u16, list: &[u8], p: &[u8], out: &mut 
 pub extern "C" fn clifford_tableau(d: u16, n: u16, list: &[u8], out: &mut [u8]) -> u16
     ensures { Written (tableau_refusal d n list.now (length out.old)) (tableau_answer d n list.now) out.old out.new result }
 {
-    clifford::clifford_tableau(d, n, list, out)
+    number(clifford::clifford_tableau(d, n, list, out))
 }
 
 // A list that does the tableau, and its number of rows.
@@ -79,7 +79,7 @@ pub extern "C" fn clifford_synthesis(d: u16, n: u16, tableau: &[u8], out: &mut [
     ensures synthesised { Synthesised d n tableau.now out.old out.new result }
     ensures chosen { Chosen d n tableau.now out.new result }
 {
-    clifford::clifford_synthesis(d, n, tableau, out)
+    Answer::from(clifford::clifford_synthesis(d, n, tableau, out))
 }
 
 // The image of p under the tableau.
@@ -87,7 +87,7 @@ pub extern "C" fn clifford_synthesis(d: u16, n: u16, tableau: &[u8], out: &mut [
 pub extern "C" fn clifford_image(d: u16, n: u16, tableau: &[u8], p: &[u8], out: &mut [u8]) -> u16
     ensures { Written (image_refusal d n tableau.now p.now (length out.old)) (image_answer d n tableau.now p.now) out.old out.new result }
 {
-    clifford::clifford_image(d, n, tableau, p, out)
+    number(clifford::clifford_image(d, n, tableau, p, out))
 }
 
 // The images of up to 512 Paulis, end to end, under the tableau: as single calls made in order answer.
@@ -101,7 +101,7 @@ pub extern "C" fn clifford_images(
 ) -> u16
     ensures { Written (images_refusal d n tableau.now paulis.now (length out.old)) (images_answer d n tableau.now paulis.now) out.old out.new result }
 {
-    clifford::clifford_images(d, n, tableau, paulis, out)
+    number(clifford::clifford_images(d, n, tableau, paulis, out))
 }
 
 // The first tableau, then the second.
@@ -115,7 +115,7 @@ pub extern "C" fn clifford_compose(
 ) -> u16
     ensures { Written (compose_refusal d n first.now second.now (length out.old)) (compose_answer d n first.now second.now) out.old out.new result }
 {
-    clifford::clifford_compose(d, n, first, second, out)
+    number(clifford::clifford_compose(d, n, first, second, out))
 }
 
 // The tableau that undoes the given one.
@@ -123,7 +123,7 @@ pub extern "C" fn clifford_compose(
 pub extern "C" fn clifford_inverse(d: u16, n: u16, tableau: &[u8], out: &mut [u8]) -> u16
     ensures { Written (inverse_refusal d n tableau.now (length out.old)) (inverse_answer d n tableau.now) out.old out.new result }
 {
-    clifford::clifford_inverse(d, n, tableau, out)
+    number(clifford::clifford_inverse(d, n, tableau, out))
 }
 
 // The ticks of the list, where rows on separate qudits run in the same one: the highest tick used.
@@ -131,5 +131,5 @@ pub extern "C" fn clifford_inverse(d: u16, n: u16, tableau: &[u8], out: &mut [u8
 pub extern "C" fn clifford_ticks(d: u16, n: u16, list: &[u8]) -> Answer
     ensures { Answered (ticks_refusal d n list.now) (ticks_of list.now) result }
 {
-    clifford::clifford_ticks(d, n, list)
+    Answer::from(clifford::clifford_ticks(d, n, list))
 }

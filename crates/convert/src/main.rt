@@ -8,25 +8,25 @@ ghost use Rattle.convert.specs.Streams.{ReadIn, WrittenFor};
 
 use std::io;
 use std::io::{Read, Write};
-use text::Input;
 
-// Reads on until a read finds the input's end, or the buffer is full. After a read that fails, as of a pipe that has nothing for the moment and does not wait,
-// the input is incomplete: the bytes before it may be a file, but not the one that was sent.
-fn read_input<R: Read>(reader: &mut R, buffer: &mut [u8]) -> Input
+// Reads on until a read finds the input's end, or the buffer is full, and returns how many bytes were read. None is returned after a read that fails, as of a pipe that
+// has nothing for the moment and does not wait: the bytes before it may be a file, but not the one that was sent. The loop goes by
+// the bytes that each read gives; std's `read_to_end` needs a heap, and its `read_exact` does not say how many were read.
+fn read_input<R: Read>(reader: &mut R, buffer: &mut [u8]) -> Option<usize>
     ensures fits { InputFits (length buffer.new) result }
     ensures bytes { ReadIn (R.remaining reader.old) (R.remaining reader.new) result buffer.new }
 {
     let mut done = 0;
     while done < buffer.len() {
         let Ok(more) = reader.read(&mut buffer[done..]) else {
-            return Input::Incomplete;
+            return None;
         };
         if more == 0 {
-            return Input::Complete(done);
+            return Some(done);
         }
         done += more;
     }
-    Input::Complete(done)
+    Some(done)
 }
 
 // Reads all that the reader has, and writes what is printed for it.

@@ -5,12 +5,13 @@ use mathlib.Core.Logic.{◌≢◌}
 use Prim.Native.Nat.{ℕ, ◌-◌, ◌<◌}
 use native.Mathlib.Omega.{arith}
 use Rattle.pauli.specs.Pauli.{Pauli}
+use Rattle.pauli.specs.Effects.{effect_f, effect_s, effect_a, effect_m, effect_x, effect_z, effect_c, effect_w}
 use Rattle.pauli.specs.Inner.Touched.{Touched, touched, still, OnOne, OnTwo}
 use Rattle.pauli.proofs.Still.{Rests, still_rests, f_still, s_still, a_still, m_still, x_still, z_still, c_still, w_still}
 use Rattle.gates.specs.Row.{apply}
 use Rattle.gates.specs.Written.{WrittenRow, row_of_kind, meant, takes_two, legal_row}
 use Rattle.gates.specs.Inner.View.{other_of, Acts, ActsAt}
-use Rattle.gates.proofs.Written.{Kind, kind_f, kind_s, kind_a, kind_m, kind_x, kind_z, kind_c, kind_w, legal_sort, legal_first, legal_second_lem}
+use Rattle.gates.proofs.Written.{Kind, kind_f, kind_s, kind_a, kind_m, kind_x, kind_z, kind_c, kind_w, legal_sort, legal_first, legal_second_lem, legal_apart}
 
 -- the row of that kind is the row that is meant
 pub of_kind_lem : (d : ℕ) (w : WrittenRow) (kind : ℕ) (p : Pauli) → w.kind ≡ kind → apply d (row_of_kind kind (w.first - 1) (w.second - 1) w.power) p ≡ apply d (meant w) p
@@ -29,6 +30,34 @@ module _ (d : ℕ) (w : WrittenRow) (kind : ℕ) (e : w.kind ≡ kind) where
   pub acts_two : {old new : Touched} (effect : ℕ → ℕ → Pauli → Pauli) → takes_two kind ≡ true → ((p : Pauli) → apply d (row_of_kind kind (w.first - 1) (w.second - 1) w.power) p ≡ effect (w.first - 1) (w.second - 1) p) → w.first - 1 ≢ w.second - 1 → OnTwo effect old new → Acts d w old new
   acts_two {old} {new} effect two same apart on = subst (λ (j : ℕ). ActsAt d w (w.first - 1) j old new) (other_is w kind e two)
       (λ p a b seen. sym (of_kind_lem d w kind p e) ∙ same p ∙ (on (w.first - 1) (w.second - 1) p apart a b seen).replaces)
+
+-- ---- the kinds, each by its number
+module _ (d : ℕ) (w : WrittenRow) {old new : Touched} where
+  pub acts_f : w.kind ≡ 1 → OnOne (λ i p. effect_f d i w.power p) old new → Acts d w old new
+  acts_f e on = acts_one d w 1 e (λ i p. effect_f d i w.power p) refl (λ p. refl) on
+
+  pub acts_s : w.kind ≡ 2 → OnOne (λ i p. effect_s d i w.power p) old new → Acts d w old new
+  acts_s e on = acts_one d w 2 e (λ i p. effect_s d i w.power p) refl (λ p. refl) on
+
+  pub acts_m : w.kind ≡ 4 → OnOne (λ i p. effect_m d i w.power p) old new → Acts d w old new
+  acts_m e on = acts_one d w 4 e (λ i p. effect_m d i w.power p) refl (λ p. refl) on
+
+  pub acts_x : w.kind ≡ 5 → OnOne (λ i p. effect_x d i w.power p) old new → Acts d w old new
+  acts_x e on = acts_one d w 5 e (λ i p. effect_x d i w.power p) refl (λ p. refl) on
+
+  pub acts_z : w.kind ≡ 6 → OnOne (λ i p. effect_z d i w.power p) old new → Acts d w old new
+  acts_z e on = acts_one d w 6 e (λ i p. effect_z d i w.power p) refl (λ p. refl) on
+
+  -- on two qudits, which a legal row has apart
+  module _ (n : ℕ) (legal : legal_row d n w ≡ true) where
+    pub acts_a : w.kind ≡ 3 → OnTwo (λ i j p. effect_a d i j w.power p) old new → Acts d w old new
+    acts_a e on = acts_two d w 3 e (λ i j p. effect_a d i j w.power p) refl (λ p. refl) (legal_apart d n w legal (ap takes_two e)) on
+
+    pub acts_c : w.kind ≡ 7 → OnTwo (λ i j p. effect_c d i j w.power p) old new → Acts d w old new
+    acts_c e on = acts_two d w 7 e (λ i j p. effect_c d i j w.power p) refl (λ p. refl) (legal_apart d n w legal (ap takes_two e)) on
+
+    pub acts_w : w.kind ≡ 8 → OnTwo (λ i j p. effect_w i j p) old new → Acts d w old new
+    acts_w e on = acts_two d w 8 e (λ i j p. effect_w i j p) refl (λ p. refl) (legal_apart d n w legal (ap takes_two e)) on
 
 -- the second qudit of a legal row is one of n
 pub legal_other : (d n : ℕ) (w : WrittenRow) → legal_row d n w ≡ true → other_of w < n

@@ -162,6 +162,9 @@ module _ (d n : ℕ) (w : WrittenRow) (legal : legal_row d n w ≡ true) where
   pub legal_kind : highest d w.kind ≡ 0 → ⊥
   legal_kind e = let t = tests d n w legal in omega arith
 
+-- those that the proofs of functions look up
+pub ruleset legal_facts = (legal_bounds, legal_highest, legal_first, legal_second_lem, legal_apart, legal_unit)
+
 -- ---- a row whose tests hold means a legal row
 powered : {d n kind i j k : ℕ} → Tests d n kind i j k → OneQudit n (i - 1) 1 k (highest d kind)
 powered t = record { qudit = omega arith; power_low = t.power_low; power_high = t.power_high }
@@ -232,15 +235,15 @@ undone_m d (Z i k) e = absurd (omega arith)
 undone_m d (C i j k) e = absurd (omega arith)
 undone_m d (W i j) e = absurd (omega arith)
 
-undone : (d : ℕ) → 0 < d → (r : Row) → (written r).kind ≢ 4 → with_power (written r) (highest d (written r).kind + 1 - (written r).power) ≡ written (undo d r)
-undone d p (F i k) ne = refl
-undone d p (S i k) ne = ap (on_one 2 i) (omega arith)
-undone d p (A i j k) ne = ap (on_two 3 i j) (omega arith)
-undone d p (M i k) ne = absurd (ne refl)
-undone d p (X i k) ne = ap (on_one 5 i) (omega arith)
-undone d p (Z i k) ne = ap (on_one 6 i) (omega arith)
-undone d p (C i j k) ne = ap (on_two 7 i j) (omega arith)
-undone d p (W i j) ne = refl
+undone : (d : ℕ) (r : Row) → (written r).kind ≢ 4 → 1 ≤ (written r).power → (written r).power ≤ highest d (written r).kind → with_power (written r) (highest d (written r).kind + 1 - (written r).power) ≡ written (undo d r)
+undone d (F i k) ne low high = refl
+undone d (S i k) ne low high = ap (on_one 2 i) (omega arith)
+undone d (A i j k) ne low high = ap (on_two 3 i j) (omega arith)
+undone d (M i k) ne low high = absurd (ne refl)
+undone d (X i k) ne low high = ap (on_one 5 i) (omega arith)
+undone d (Z i k) ne low high = ap (on_one 6 i) (omega arith)
+undone d (C i j k) ne low high = ap (on_two 7 i j) (omega arith)
+undone d (W i j) ne low high = refl
 
 module _ (d n : ℕ) (w : WrittenRow) (legal : legal_row d n w ≡ true) where
   same : written (meant w) ≡ w
@@ -252,8 +255,10 @@ module _ (d n : ℕ) (w : WrittenRow) (legal : legal_row d n w ≡ true) where
   pub undo_m : w.kind ≡ 4 → with_power w (inverse_of d w.power) ≡ written (undo d (meant w))
   undo_m e = sym (ap (λ (v : WrittenRow). with_power v (inverse_of d v.power)) same) ∙ undone_m d (meant w) (kind_same ∙ e)
 
-  pub undo_other : 0 < d → w.kind ≢ 4 → with_power w (highest d w.kind + 1 - w.power) ≡ written (undo d (meant w))
-  undo_other p ne = sym (ap (λ (v : WrittenRow). with_power v (highest d v.kind + 1 - v.power)) same) ∙ undone d p (meant w) (λ e. ne (sym kind_same ∙ e))
+  pub undo_other : w.kind ≢ 4 → with_power w (highest d w.kind + 1 - w.power) ≡ written (undo d (meant w))
+  undo_other ne =
+      let t = tests d n w legal in
+      sym (ap (λ (v : WrittenRow). with_power v (highest d v.kind + 1 - v.power)) same) ∙ undone d (meant w) (λ e. ne (sym kind_same ∙ e)) (rw same t.power_low) (rw same t.power_high)
 
 -- ---- what a row is written as means that row
 pub meant_of_written : (r : Row) → meant (written r) ≡ r
@@ -349,6 +354,10 @@ module _ (test : WrittenRow → Bool) where
       decided : (b : Bool) → all_rows test (tab f m) ≡ b → b ≡ false
       decided true g = sym (all_at f m i h g) ∙ e
       decided false g = refl
+
+-- the row that is read at a place of a legal list is legal
+pub legal_at : (d n : ℕ) (list : List ℕ) (r : ℕ) (w : WrittenRow) → w ≡ row_at list r → r < length list / 8 → all_legal_rows d n (list_rows list) ≡ true → legal_row d n w ≡ true
+legal_at d n list r w e h legal = ap (legal_row d n) e ∙ all_at (legal_row d n) (row_at list) (length list / 8) r h legal
 
 -- ---- encoding
 list_numbers_at : (ws : List WrittenRow) (w₀ : WrittenRow) (r o : ℕ) → r < length ws → o < 4 → get_or (list_numbers ws) (4 * r + o) 0 ≡ get_or (row_numbers (get_or ws r w₀)) o 0

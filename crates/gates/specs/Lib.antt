@@ -1,5 +1,6 @@
 -- In the order to read them. `Inner` has what the contracts of functions inside the crate speak of: no reader needs it to believe what a public call promises.
 pub mod Row
+pub mod Kind
 pub mod Written
 pub mod Ticks
 pub mod Calls

@@ -1,67 +1,57 @@
 // The public calls on lists.
-ghost use Rattle.std.specs.Prelude.{◌≡◌, length};
+ghost use Rattle.std.specs.Prelude.{◌≡◌, length, IfOk};
 ghost use Rattle.arith.specs.Refusals.{number_of};
-ghost use Rattle.arith.specs.Answers.{Answered, Written};
+ghost use Rattle.arith.specs.Answers.{Answered, Written, answer_of};
 ghost use Rattle.gates.specs.Calls.{run_refusal, run_bytes, ticks_refusal, ticks_of};
 
-use arith::checks::{Answer, Check};
+use arith::checks::Refusal;
+use arith::modulus::{Modulus, Width, given_list};
 use pauli::Pauli;
 
 // 1, 2, then 3 of the list and of the Pauli, 4 of an output of so many bytes, 5 of the Pauli, 6 of the list.
-fn run_check(d: u16, n: u16, list: &[u8], p: &[u8], room: usize) -> Check
-    ensures { number_of result ≡ run_refusal d n list.now p.now room }
+#[tactic(auto, using(arith::proofs::Refusals::or_else_none, arith::proofs::Refusals::size_good))]
+fn run_check(
+    d: u16,
+    n: u16,
+    list: &[u8],
+    p: &[u8],
+    room: usize,
+) -> Result<(Modulus, Width), Refusal>
+    ensures refusal { number_of result ≡ run_refusal d n list.now p.now room }
+    ensures value { IfOk result (λ both. both ≡ (d, n)) }
 {
-    let of_rows = arith::checks::given_list(d, n, list.len());
-    let Check::Good = of_rows else {
-        return of_rows;
-    };
-    let m = n as usize;
-    let of_p = pauli::calls::lent(n, p.len(), room);
-    let Check::Good = of_p else {
-        return of_p;
-    };
-    let of_range = Pauli::read(p, 0, m).range(d, m);
-    let Check::Good = of_range else {
-        return of_range;
-    };
-    crate::lists::list_legal(list, d, m)
+    let both = given_list(d, n, list.len())?;
+    pauli::calls::lent(n, p.len(), room)?;
+    let (modulus, width) = both;
+    Pauli::read(p, 0, width).range(modulus, width)?;
+    crate::lists::list_legal(list, modulus, width.value())?;
+    Ok(both)
 }
 
 // A list run on a Pauli.
-pub fn run(d: u16, n: u16, list: &[u8], p: &[u8], out: &mut [u8]) -> u16
-    ensures { Written (run_refusal d n list.now p.now (length out.old)) (run_bytes d n list.now p.now) out.old out.new result }
+#[tactic(auto, using(crate::proofs::Accepted::run_accepted, pauli::proofs::Encoding::written_front))]
+pub fn run(d: u16, n: u16, list: &[u8], p: &[u8], out: &mut [u8]) -> Result<(), Refusal>
+    ensures { Written (run_refusal d n list.now p.now (length out.old)) (run_bytes d n list.now p.now) out.old out.new (number_of result) }
 {
-    let found = run_check(d, n, list, p, out.len());
-    let Check::Good = found else {
-        return arith::checks::number(found);
-    };
-    let m = n as usize;
-    let start = Pauli::read(p, 0, m);
-    crate::lists::run_list(list, start, d, m).write(out, 0, m);
-    0
+    let (modulus, width) = run_check(d, n, list, p, out.len())?;
+    let start = Pauli::read(p, 0, width);
+    crate::lists::run_list(list, start, modulus, width).write(out, 0, width);
+    Ok(())
 }
 
 // 1, 2, then 3 and 6 of the list.
-fn ticks_check(d: u16, n: u16, list: &[u8]) -> Check
+fn ticks_check(d: u16, n: u16, list: &[u8]) -> Result<(), Refusal>
     ensures { number_of result ≡ ticks_refusal d n list.now }
 {
-    let of_list = arith::checks::given_list(d, n, list.len());
-    let Check::Good = of_list else {
-        return of_list;
-    };
-    crate::lists::list_legal(list, d, n as usize)
+    let (modulus, width) = given_list(d, n, list.len())?;
+    crate::lists::list_legal(list, modulus, width.value())
 }
 
 // The ticks of a list.
-pub fn ticks(d: u16, n: u16, list: &[u8]) -> Answer
-    ensures { Answered (ticks_refusal d n list.now) (ticks_of list.now) result }
+#[tactic(auto, using(crate::proofs::Accepted::ticks_accepted))]
+pub fn ticks(d: u16, n: u16, list: &[u8]) -> Result<u16, Refusal>
+    ensures { Answered (ticks_refusal d n list.now) (ticks_of list.now) (answer_of result) }
 {
-    let found = ticks_check(d, n, list);
-    let Check::Good = found else {
-        return arith::calls::refused(found);
-    };
-    Answer {
-        number: 0,
-        value: crate::lists::list_ticks(list),
-    }
+    ticks_check(d, n, list)?;
+    Ok(crate::lists::list_ticks(list))
 }

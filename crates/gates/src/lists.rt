@@ -1,15 +1,15 @@
-// Lists of rows in bytes, 8 bytes a row.
-ghost use Rattle.std.specs.Prelude.{◌≡◌, true, ℕ, ◌+◌, ◌*◌, ◌/◌, ◌≤◌, ◌<◌, length};
-ghost use Rattle.arith.specs.Refusals.{Dimension, number_of, row_of};
+// Lists of rows in bytes, 8 bytes a row. A loop over the rows goes by their numbers, since `read_row` takes one: a chunk of the bytes would be taken apart by the same offsets.
+ghost use Rattle.std.specs.Prelude.{◌≡◌, Bool, true, ℕ, ◌+◌, ◌*◌, ◌/◌, ◌≤◌, ◌<◌, length};
+ghost use Rattle.arith.specs.Refusals.{number_of, row_of};
 ghost use Rattle.pauli.specs.Inner.View.{view, WordTrue};
 ghost use Rattle.gates.specs.Row.{apply, run};
 ghost use Rattle.gates.specs.Ticks.{ticks};
-ghost use Rattle.gates.specs.Written.{meant, row_at, list_rows, rows_of, all_legal_rows};
-ghost use Rattle.gates.specs.Inner.View.{view_row};
+ghost use Rattle.gates.specs.Written.{WrittenRow, meant, row_at, list_rows, rows_of, all_rows, all_legal_rows};
+ghost use Rattle.gates.specs.Inner.View.{Code, view_row};
 
 use crate::Row;
-use arith::checks::{Check, Refusal};
-use arith::numbers::larger;
+use arith::checks::Refusal;
+use arith::modulus::{Modulus, Width};
 use pauli::Pauli;
 
 // Row r of the bytes.
@@ -25,24 +25,32 @@ pub fn read_row(b: &[u8], r: usize) -> Row
     }
 }
 
-// 6, row: a row of the list isn't legal.
-pub fn list_legal(list: &[u8], d: u16, n: usize) -> Check
-    requires { Dimension d }
-    ensures { number_of result ≡ row_of (all_legal_rows d n (list_rows list.now)) }
+// 6, row: a row of the list doesn't pass the test.
+#[tactic(auto, using(crate::proofs::Written::all_none, crate::proofs::Written::all_more), unfolding(arith::specs::Refusals::row_of))]
+pub fn rows_pass<F: Fn(Row) -> bool>(list: &[u8], test: F) -> Result<(), Refusal>
+    requires { F.IsAlwaysCallable test }
+    ensures { (p : WrittenRow → Bool) → ((r : Code) (b : Bool) → F.post test r b → b ≡ p (view_row r)) → number_of result ≡ row_of (all_rows p (list_rows list.now)) }
 {
     let rows = list.len() / 8;
     for r in 0..rows {
-        let row = read_row(list, r);
-        if !row.legal(d, n) {
-            return Check::Refused(Refusal::Row);
+        if !test(read_row(list, r)) {
+            return Err(Refusal::Row);
         }
     }
-    Check::Good
+    Ok(())
+}
+
+// 6, row: a row of the list isn't legal.
+pub fn list_legal(list: &[u8], d: Modulus, n: usize) -> Result<(), Refusal>
+    ensures { number_of result ≡ row_of (all_legal_rows d n (list_rows list.now)) }
+{
+    rows_pass(list, |row| row.legal(d, n))
 }
 
 // What row r of the list makes of the Pauli.
-fn run_row(list: &[u8], r: usize, p: Pauli, d: u16, n: usize) -> Pauli
-    requires dimension { Dimension d × ((n ≤ 16) × (r < length list.now / 8)) }
+#[tactic(auto, using(crate::proofs::Written::legal_at))]
+fn run_row(list: &[u8], r: usize, p: Pauli, d: Modulus, n: Width) -> Pauli
+    requires row { r < length list.now / 8 }
     requires legal { all_legal_rows d n (list_rows list.now) ≡ true }
     ensures value { view n result ≡ apply d (meant (row_at list.now r)) (view n p) }
     ensures word { WordTrue n p → WordTrue n result }
@@ -51,8 +59,8 @@ fn run_row(list: &[u8], r: usize, p: Pauli, d: u16, n: usize) -> Pauli
 }
 
 // What the list carries the Pauli to: each row takes what the one before it handed on.
-pub fn run_list(list: &[u8], p: Pauli, d: u16, n: usize) -> Pauli
-    requires dimension { Dimension d × (n ≤ 16) }
+#[tactic(auto, using(crate::proofs::Run::run_start, crate::proofs::Run::run_next))]
+pub fn run_list(list: &[u8], p: Pauli, d: Modulus, n: Width) -> Pauli
     requires legal { all_legal_rows d n (list_rows list.now) ≡ true }
     ensures value { view n result ≡ run d (rows_of list.now) (view n p) }
     ensures word { WordTrue n p → WordTrue n result }
@@ -78,10 +86,10 @@ pub fn list_ticks(list: &[u8]) -> u16
         let next = read_row(list, r);
         let i = next.first as usize - 1;
         let j = next.other();
-        let tick = larger(last[i], last[j]) + 1;
+        let tick = last[i].max(last[j]) + 1;
         last[i] = tick;
         last[j] = tick;
-        highest = larger(highest, tick);
+        highest = highest.max(tick);
     }
     highest
 }

@@ -1,17 +1,13 @@
 -- The numbers that the code of a gate row computes in reduced steps. Assumes nothing.
 use mathlib.Core.Path.{◌≡◌}
 use mathlib.Core.List.{[], ◌∷◌}
-use Prim.Native.Nat.{ℕ, ◌+◌, ◌*◌, ◌%◌, ◌≤◌, ◌<◌}
-use native.Mathlib.Omega.{arith}
+use Prim.Native.Nat.{ℕ, ◌+◌, ◌*◌, ◌%◌, ◌<◌}
 use Rattle.arith.specs.Residues.{neg}
 use Rattle.arith.proofs.Cong.{Cong}
 use Rattle.arith.proofs.Ring.{ring₁, ring₂, quote}
 
 -- ---- as the code computes them and as the definitions have them
-module _ (d k : ℕ) (large : 2 ≤ d) where
-  pos : 0 < d
-  pos = omega arith
-
+module _ (d k : ℕ) (pos : 0 < d) where
   pub z_phase : (δ x : ℕ) → Cong (2 * d) (δ + 2 * (k * x % d) % (2 * d)) (δ + 2 * (k * x))
   z_phase δ x = ring₂ d (k ∷ δ ∷ x ∷ []) pos (search quote depth 30) (search quote depth 30) tt
 
@@ -35,8 +31,8 @@ module _ (d k : ℕ) (large : 2 ≤ d) where
   minus_entry y x = ring₁ d (k ∷ y ∷ x ∷ []) pos (search quote depth 30) (search quote depth 30) tt
 
 -- the phases that F adds when done twice cancel
-pub half_turn_phase : (d δ x z : ℕ) → 2 ≤ d → Cong (2 * d) ((δ + neg (2 * d) (2 * (x * z))) % (2 * d) + neg (2 * d) (2 * ((neg d z % d) * x))) δ
-half_turn_phase d δ x z large = ring₂ d (δ ∷ x ∷ z ∷ []) (omega arith) (search quote depth 30) (search quote depth 30) tt
+pub half_turn_phase : (d δ x z : ℕ) → 0 < d → Cong (2 * d) ((δ + neg (2 * d) (2 * (x * z))) % (2 * d) + neg (2 * d) (2 * ((neg d z % d) * x))) δ
+half_turn_phase d δ x z pos = ring₂ d (δ ∷ x ∷ z ∷ []) pos (search quote depth 30) (search quote depth 30) tt
 
 -- the difference of two reduced sums is that of the sums
 reduced_difference : (d x y : ℕ) → 0 < d → Cong d (x % d + neg d (y % d)) (x + neg d y)

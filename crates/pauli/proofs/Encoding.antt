@@ -24,6 +24,10 @@ encode_length n p ev ew = omega (arith, bytes_length (numbers_of p), length-appe
 pub decode_range : {d n : ℕ} (k : ℕ) (b : List ℕ) → pauli_range_of d (decode_at n k b) ≡ 0 → InRange d n (decode_at n k b)
 decode_range {n = n} k b e = range_good (decode_at n k b) (tab_length _ n) (tab_length _ n) e
 
+-- the same of the code's Pauli
+pub view_range : {d n : ℕ} (r : Code) → pauli_range_of d (view n r) ≡ 0 → InRange d n (view n r)
+view_range {n = n} r e = range_good (view n r) (tab_length (at r.v) n) (tab_length (at r.w) n) e
+
 -- ---- writing
 -- a phase, then v, then w
 pub write_pauli : (l l1 l2 l3 : List ℕ) (k n h : ℕ) (v w : List ℕ) → length v ≡ n
@@ -32,12 +36,13 @@ pub write_pauli : (l l1 l2 l3 : List ℕ) (k n h : ℕ) (v w : List ℕ) → len
 write_pauli l l1 l2 l3 k n h v w e e1 e2 e3 =
     rw (e3, e2, e1) (ap (λ (z : List ℕ). sets z (2 * (k + 1 + n)) (bytes_of w)) (write_more l k (k + 1) (h ∷ []) v (omega arith)) ∙ write_more l k (k + 1 + n) (h ∷ v) w (omega (arith, e)))
 
--- an output that has room, once the code's Pauli r, which stands for p, is written at its start
+-- an output that has room, once the code's Pauli r is written at its start
+pub written_front : (n : ℕ) (old : List ℕ) (r : Code) → pauli_bytes n ≤ length old → sets old 0 (encode (view n r)) ≡ front (encode (view n r)) old
+written_front n old r h = write_front old (encode (view n r)) (omega (arith, encode_length n (view n r) (tab_length (at r.v) n) (tab_length (at r.w) n)))
+
+-- the same, where r stands for p
 pub write_answer : (n : ℕ) (old new : List ℕ) (r : Code) (p : Pauli) → pauli_bytes n ≤ length old → new ≡ sets old (2 * 0) (encode (view n r)) → view n r ≡ p → new ≡ front (encode p) old
-write_answer n old new r p h e q =
-    e
-    ∙ write_front old (encode (view n r)) (omega (arith, encode_length n (view n r) (tab_length (at r.v) n) (tab_length (at r.w) n)))
-    ∙ ap (λ (z : Pauli). front (encode z) old) q
+write_answer n old new r p h e q = e ∙ written_front n old r h ∙ ap (λ (z : Pauli). front (encode z) old) q
 
 -- ---- reading what was written
 -- the numbers ys among the numbers whose bytes these are, followed by any bytes

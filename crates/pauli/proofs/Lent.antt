@@ -1,23 +1,23 @@
 -- The lent bytes of a call on Paulis. A check answers several refusals of the table at once, and the call has one more after them:
 -- what the call's refusal is where the check refuses and past the check, and what holds of the bytes then. Assumes nothing.
-use mathlib.Core.Path.{◌≡◌, sym, ap, ◌∙◌}
+use mathlib.Core.Path.{◌≡◌, refl, sym, ap, ◌∙◌}
+use mathlib.Core.List.{List}
 use Prim.Native.Nat.{ℕ, ◌≤◌}
-use Rattle.arith.specs.Refusals.{or_else, given_of, size_of, room_of, number_of}
-use Rattle.arith.proofs.Refusals.{Given, or_else_none, or_else_skip, or_else_assoc, given_good, size_good, room_good, Stops, stop}
-use Rattle.arith.specs.declared.checks.Check.{Check}
-use Rattle.arith.specs.declared.checks.Check.TheVariants.{Refused}
+use Rattle.arith.specs.Refusals.{refusal_number, or_else, unless, kept, given_of, size_of, room_of, number_of}
+use Rattle.arith.proofs.Refusals.{Given, or_else_none, or_else_skip, or_else_assoc, given_good, size_good, room_good, Stops, stop, stop_last}
+use Rattle.std.specs.Prelude.{Result, Err}
 use Rattle.arith.specs.declared.checks.Refusal.{Refusal}
 use Rattle.pauli.specs.Bytes.{pauli_bytes}
 
 -- a call refuses by `all`, which is s or else x: where the check of s refuses, and past it
-pub stop_at : (s x : ℕ) {all : ℕ} {k : Refusal} {r : Check} → or_else s x ≡ all → number_of r ≡ s → r ≡ Refused k → Stops r all
+pub stop_at : {A : Type 0} (s x : ℕ) {all : ℕ} {k : Refusal} {r : Result A Refusal} → or_else s x ≡ all → number_of r ≡ s → r ≡ Err k → Stops r all
 stop_at s x e f g = rw e at (stop s x f g)
 
 -- ---- one more refusal, after s
 pub past : (s x : ℕ) {all : ℕ} → or_else s x ≡ all → s ≡ 0 → all ≡ x
 past s x e f = sym e ∙ or_else_skip x f
 
-pub stop_past : (s x : ℕ) {all : ℕ} {r : Check} → or_else s x ≡ all → s ≡ 0 → Stops r x → Stops r all
+pub stop_past : {A : Type 0} (s x : ℕ) {all : ℕ} {r : Result A Refusal} → or_else s x ≡ all → s ≡ 0 → Stops r x → Stops r all
 stop_past s x e f h = rw (past s x e f) h
 
 after_three : (a b c x : ℕ) → or_else (or_else a (or_else b c)) x ≡ or_else a (or_else b (or_else c x))
@@ -79,5 +79,18 @@ module _ (d n p q room : ℕ) where
       let y = pair_lent d n p q x.0 in
       (y.0, (y.1.0, (y.1.1, room_good x.1)))
 
--- ---- the four together, for the proofs of the calls
-pub ruleset lent = (one_lent, pair_lent, output_lent, pair_output_lent)
+-- ---- a refusal found: what comes after it makes no difference, a result is 0, and an output is as it was
+pub or_else_left : (a b c : ℕ) → or_else a (or_else b c) ≡ or_else (or_else a b) c
+or_else_left a b c = sym (or_else_assoc a b c)
+
+pub or_else_refused : (k : Refusal) (x : ℕ) → or_else (refusal_number k) x ≡ refusal_number k
+or_else_refused k x = sym (stop {A = ℕ} (refusal_number k) x {r = Err k} refl refl).same
+
+pub unless_refused : (k : Refusal) (v : ℕ) → unless (refusal_number k) v ≡ 0
+unless_refused k v = sym ((stop_last {A = ℕ} (refusal_number k) {r = Err k} refl refl).value v)
+
+pub kept_refused : (k : Refusal) (old new : List ℕ) → kept (refusal_number k) old new ≡ old
+kept_refused k old new = sym ((stop_last {A = ℕ} (refusal_number k) {r = Err k} refl refl).out old new)
+
+-- ---- all of them together, for the proofs of the calls
+pub ruleset lent = (one_lent, pair_lent, output_lent, pair_output_lent, or_else_left, or_else_refused, unless_refused, kept_refused)

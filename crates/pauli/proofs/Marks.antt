@@ -18,7 +18,7 @@ use Rattle.pauli.specs.Pauli.{Pauli, Below, none, more, dot, comm, unit_x, unit_
 use Rattle.pauli.specs.declared.Pauli.{Pauli as Code}
 use Rattle.pauli.specs.Inner.View.{at, view}
 use Rattle.pauli.specs.Inner.Words.{Joins, Changes}
-use Rattle.pauli.specs.Support.{mark, marks, word_of, support_of, touched_of}
+use Rattle.pauli.specs.Support.{mark, marks, word_of, total, support_of, touched_of}
 use Rattle.pauli.proofs.Lists.{cons_path, zeros_length, get_d_zeros, set_back}
 use Rattle.pauli.proofs.Words.{lowest, higher, word_below, word_bit, word_ones, word_single}
 
@@ -140,8 +140,11 @@ placed_word {i = i} x z {p} o l v w e f =
     ∙ ap word_of (sym (ap₂ marks v w ∙ marks_set p.v p.w i x z (rw o.of_v l) (rw o.of_w l)))
 
 -- the qudits touched are as many as the word has ones
+pub total_ones : (vs ws : List ℕ) → total (marks vs ws) ≡ ones (word_of (marks vs ws))
+total_ones vs ws = sym (word_ones (marks_below vs ws))
+
 pub touched_ones : (p : Pauli) → touched_of p ≡ ones (support_of p)
-touched_ones p = sym (word_ones (marks_below p.v p.w))
+touched_ones p = total_ones p.v p.w
 
 -- ---- no qudit in common
 -- of two qudits at one place one isn't touched: the product of an entry of each is 0

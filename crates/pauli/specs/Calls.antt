@@ -1,10 +1,12 @@
 -- The public calls on Paulis in bytes: each call's refusal, in the order of document 01's table, and its answer. `room` is the output's length.
-use Rattle.std.specs.Prelude.{◌≡◌, List, ℕ, length}
-use Rattle.arith.specs.Refusals.{or_else, given_of, size_of, room_of, unless}
+use Rattle.std.specs.Prelude.{◌≡◌, Result, Ok, Err, List, ℕ, length}
+use Rattle.arith.specs.Refusals.{refusal_number, or_else, given_of, size_of, room_of, unless}
 use Rattle.pauli.specs.Pauli.{product, power, comm}
 use Rattle.pauli.specs.Support.{support_of, touched_of}
 use Rattle.pauli.specs.Bytes.{pauli_bytes, decode, encode}
 use Rattle.pauli.specs.Range.{pauli_range_of, pair_range_of}
+use Rattle.arith.specs.declared.checks.Refusal.{Refusal}
+use Rattle.pauli.specs.declared.calls.QuditSupport.{QuditSupport}
 use Rattle.pauli.specs.declared.calls.SupportAnswer.{SupportAnswer}
 
 -- ---- product of p and q, in this order: 1, 2, 3 of p and of q, 4, 5 of p and of q
@@ -47,6 +49,11 @@ support_refusal d n p =
     or_else (given_of d n)
     (or_else (size_of (pauli_bytes n) (length p))
     (pauli_range_of d (decode n p)))
+
+-- what C is handed of it: the refusal's number, or 0, and the two results, or 0
+abbrev pub support_answer_of : Result QuditSupport Refusal → SupportAnswer
+support_answer_of (Ok s) = record { number = 0; word = s.word; touched = s.touched }
+support_answer_of (Err k) = record { number = refusal_number k; word = 0; touched = 0 }
 
 -- the refusal's number, the support word and the number of qudits touched, both 0 of a refused call
 pub record Supported (d n : ℕ) (p : List ℕ) (r : SupportAnswer) : Type 0 where

@@ -7,7 +7,8 @@ ghost use Rattle.pauli.specs.Support.{marks, word_of};
 ghost use Rattle.pauli.specs.Inner.View.{entries, view, WordTrue};
 
 use crate::Pauli;
-use arith::residue::{Phase, Residue};
+use arith::modulus::Width;
+use arith::residue::{Modular, Phase, Residue};
 
 // The m numbers from number k on.
 fn read_numbers(b: &[u8], k: usize, m: usize) -> [u16; 33]
@@ -22,59 +23,59 @@ fn read_numbers(b: &[u8], k: usize, m: usize) -> [u16; 33]
 }
 
 // The support word of n qudits, whose v start at number k, with w behind. It is made from the bytes: to read the numbers again would wait for their stores.
-fn word_at(b: &[u8], k: usize, n: usize) -> u16
-    requires { (n ≤ 16) × (2 * (k + 2 * n) ≤ length b.now) }
+fn word_at(b: &[u8], k: usize, n: Width) -> u16
+    requires { 2 * (k + 2 * n) ≤ length b.now }
     ensures { result ≡ word_of (marks (numbers_at b.now k n) (numbers_at b.now (k + n) n)) }
 {
+    let m = n.value();
     let mut word: u16 = 0;
-    for i in 0..n {
+    for i in 0..m {
         let x = Residue::lent(arith::numbers::get(b, k + i));
-        let z = Residue::lent(arith::numbers::get(b, k + n + i));
+        let z = Residue::lent(arith::numbers::get(b, k + m + i));
         word = crate::support::with_next(word, i, x, z);
     }
     word
 }
 
 // Writes the first n entries from number k on.
-fn write_entries(b: &mut [u8], k: usize, a: [Residue; 16], n: usize)
-    requires { (n ≤ 16) × (2 * (k + n) ≤ length b.old) }
+#[tactic(auto, using(arith::proofs::Bytes::write_none, arith::proofs::Bytes::write_next))]
+fn write_entries(b: &mut [u8], k: usize, a: [Residue; 16], n: Width)
+    requires { 2 * (k + n) ≤ length b.old }
     ensures { b.new ≡ sets b.old (2 * k) (bytes_of (entries n a)) }
 {
-    for i in 0..n {
-        let x = a[i];
-        arith::numbers::put(b, k + i, x.value());
+    for i in 0..n.value() {
+        arith::numbers::put(b, k + i, a[i].value());
     }
 }
 
 impl Pauli {
     // The Pauli on n qudits that starts at number k of the bytes. All its numbers are read in one loop: of v and w it holds 16 places, whatever n is.
-    pub fn read(b: &[u8], k: usize, n: usize) -> Pauli
-        requires { (n ≤ 16) × (2 * (k + 1 + 2 * n) ≤ length b.now) }
+    pub fn read(b: &[u8], k: usize, n: Width) -> Pauli
+        requires { 2 * (k + 1 + 2 * n) ≤ length b.now }
         ensures value { view n result ≡ decode_at n k b.now }
         ensures word { WordTrue n result }
     {
-        let numbers = read_numbers(b, k, 1 + 2 * n);
+        let m = n.value();
+        let numbers = read_numbers(b, k, 1 + 2 * m);
         let v = crate::arrays::entries_from(&numbers, 1);
-        let w = crate::arrays::entries_from(&numbers, 1 + n);
+        let w = crate::arrays::entries_from(&numbers, 1 + m);
         let word = word_at(b, k + 1, n);
         Pauli {
             phase: Phase::lent(numbers[0]),
-            v: v,
-            w: w,
+            v,
+            w,
             support: word,
         }
     }
 
     // Writes it from number k on.
-    pub fn write(self, b: &mut [u8], k: usize, n: usize)
-        requires { (n ≤ 16) × (2 * (k + 1 + 2 * n) ≤ length b.old) }
+    #[tactic(auto, using(crate::proofs::Encoding::write_pauli, arith::proofs::Bytes::tab_length))]
+    pub fn write(self, b: &mut [u8], k: usize, n: Width)
+        requires { 2 * (k + 1 + 2 * n) ≤ length b.old }
         ensures { b.new ≡ sets b.old (2 * k) (encode (view n self)) }
     {
-        let phase = self.phase;
-        let v = self.v;
-        let w = self.w;
-        arith::numbers::put(b, k, phase.value());
-        write_entries(b, k + 1, v, n);
-        write_entries(b, k + 1 + n, w, n);
+        arith::numbers::put(b, k, self.phase.value());
+        write_entries(b, k + 1, self.v, n);
+        write_entries(b, k + 1 + n.value(), self.w, n);
     }
 }

@@ -7,17 +7,18 @@
 pub mod arrays;
 pub mod bytes;
 pub mod calls;
-pub mod operations;
-
-use arith::residue::{Phase, Residue};
-
 pub mod effects;
+pub mod operations;
 pub mod support;
 pub mod touched;
 
+use arith::residue::{Phase, Residue};
+
+// `WordTrue` is a clause of each function and no invariant of the struct: a Pauli doesn't hold n, and an effect keeps the word true for every n at once.
 #[derive(Clone, Copy)]
 pub struct Pauli {
     pub phase: Phase,
+    // two arrays, and none of pairs: a sum of products takes several entries of one kind at a time
     pub v: [Residue; 16],
     pub w: [Residue; 16],
     pub support: u16,

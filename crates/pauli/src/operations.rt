@@ -1,14 +1,15 @@
 // Operations on Paulis: products, powers, commutation numbers, and the unit Paulis. The Pauli in work is one value that each takes and hands on.
 ghost use Rattle.std.specs.Prelude.{◌≡◌, ◌*◌, ◌-◌, ◌%◌, ◌≤◌, ◌<◌};
 ghost use Rattle.arith.specs.Bytes.{tab};
-ghost use Rattle.arith.specs.Refusals.{Dimension, number_of};
+ghost use Rattle.arith.specs.Refusals.{number_of};
 ghost use Rattle.pauli.specs.Pauli.{InRange, plus, product, power, comm, unit, parity};
 ghost use Rattle.pauli.specs.Range.{pauli_range_of, pair_range_of};
 ghost use Rattle.pauli.specs.Inner.View.{at, entries, view, WordTrue};
 
 use crate::Pauli;
-use arith::checks::Check;
-use arith::residue::{Phase, Power, Residue};
+use arith::checks::Refusal;
+use arith::modulus::{Modulus, Width};
+use arith::residue::{Modular, Phase, Power, Residue};
 
 // k·(k − 1): the pairs of two of k copies, each pair in both orders. An even number.
 fn ordered_pairs(k: Power) -> u64
@@ -20,14 +21,15 @@ fn ordered_pairs(k: Power) -> u64
 
 impl Pauli {
     // Unit Pauli j, counted from 0: v at j is 1 below n, w at j − n is 1 from n on.
-    pub fn unit(j: usize, n: usize) -> Pauli
-        requires { (n ≤ 16) × (j < 2 * n) }
+    pub fn unit(j: usize, n: Width) -> Pauli
+        requires { j < 2 * n }
         ensures value { view n result ≡ unit n j }
         ensures word { WordTrue n result }
     {
+        let m = n.value();
         let zeros = [Residue::ZERO; 16];
         let mut one = [Residue::ZERO; 16];
-        if j < n {
+        if j < m {
             one[j] = Residue::ONE;
             return Pauli {
                 phase: Phase::ZERO,
@@ -36,18 +38,17 @@ impl Pauli {
                 support: 1 << j,
             };
         }
-        one[j - n] = Residue::ONE;
+        one[j - m] = Residue::ONE;
         Pauli {
             phase: Phase::ZERO,
             v: zeros,
             w: one,
-            support: 1 << (j - n),
+            support: 1 << (j - m),
         }
     }
 
     // The sums of the entries modulo d, under another phase. One loop makes v and w, so that both are stored before either is copied: a copy waits for the store before it.
-    fn summed(self, other: Pauli, phase: Phase, d: u16, n: usize) -> Pauli
-        requires { Dimension d × (n ≤ 16) }
+    fn summed(self, other: Pauli, phase: Phase, d: Modulus, n: Width) -> Pauli
         ensures value { view n result ≡ record { phase = phase.0; v = plus d (entries n self.v) (entries n other.v); w = plus d (entries n self.w) (entries n other.w) } }
         ensures word { WordTrue n result }
     {
@@ -58,7 +59,7 @@ impl Pauli {
         let mut vs = [Residue::ZERO; 16];
         let mut wt = [Residue::ZERO; 16];
         let mut sum_word: u16 = 0;
-        for i in 0..n {
+        for i in 0..n.value() {
             let x = v[i];
             let z = w[i];
             let xs = x.plus(s[i], d);
@@ -68,7 +69,7 @@ impl Pauli {
             sum_word = crate::support::with_next(sum_word, i, xs, zt);
         }
         Pauli {
-            phase: phase,
+            phase,
             v: vs,
             w: wt,
             support: sum_word,
@@ -76,8 +77,7 @@ impl Pauli {
     }
 
     // The multiples k·v and k·w modulo d, under another phase; in one loop as above.
-    fn scaled(self, k: Power, phase: Phase, d: u16, n: usize) -> Pauli
-        requires { Dimension d × (n ≤ 16) }
+    fn scaled(self, k: Power, phase: Phase, d: Modulus, n: Width) -> Pauli
         ensures value { view n result ≡ record { phase = phase.0; v = tab (λ i. k.0 * at self.v i % d) n; w = tab (λ i. k.0 * at self.w i % d) n } }
         ensures word { WordTrue n result }
     {
@@ -86,7 +86,7 @@ impl Pauli {
         let mut kv = [Residue::ZERO; 16];
         let mut kw = [Residue::ZERO; 16];
         let mut word: u16 = 0;
-        for i in 0..n {
+        for i in 0..n.value() {
             let x = v[i];
             let z = w[i];
             let kx = x.scaled(k, d);
@@ -96,7 +96,7 @@ impl Pauli {
             word = crate::support::with_next(word, i, kx, kz);
         }
         Pauli {
-            phase: phase,
+            phase,
             v: kv,
             w: kw,
             support: word,
@@ -104,55 +104,41 @@ impl Pauli {
     }
 
     // (δ, v, w) times (ε, s, t): phase δ + ε + 2·(w·s), entries v + s and w + t.
-    pub fn product(self, other: Pauli, d: u16, n: usize) -> Pauli
-        requires { Dimension d × (n ≤ 16) }
+    pub fn product(self, other: Pauli, d: Modulus, n: Width) -> Pauli
         ensures value { view n result ≡ product d (view n self) (view n other) }
         ensures word { WordTrue n result }
     {
-        let w = self.w;
-        let s = other.v;
-        let twist = Phase::reduced(2 * crate::arrays::sum_of_products(w, s, n), d);
-        let delta = self.phase;
-        let epsilon = other.phase;
-        let phase = delta.plus(epsilon, d).plus(twist, d);
+        let twist = Phase::reduced(2 * crate::arrays::sum_of_products(self.w, other.v, n), d);
+        let phase = self.phase.plus(other.phase, d).plus(twist, d);
         self.summed(other, phase, d, n)
     }
 
     // The product of k copies, at once: phase k·δ + k·(k − 1)·(w·v), entries k·v and k·w. As k·(k − 1) is even, w·v may be reduced modulo d there.
-    pub fn power(self, k: Power, d: u16, n: usize) -> Pauli
-        requires dimension { Dimension d × (n ≤ 16) }
+    pub fn power(self, k: Power, d: Modulus, n: Width) -> Pauli
         requires in_range { InRange d n (view n self) }
         ensures value { view n result ≡ power d n (view n self) k.0 }
         ensures word { WordTrue n result }
     {
-        let v = self.v;
-        let w = self.w;
-        let twist = Residue::reduced(crate::arrays::sum_of_products(w, v, n), d);
-        let delta = self.phase;
+        let twist = Residue::reduced(crate::arrays::sum_of_products(self.w, self.v, n), d);
         let phase = Phase::reduced(
-            ordered_pairs(k) * (twist.value() as u64) + (k.0 as u64) * (delta.value() as u64),
+            ordered_pairs(k) * (twist.value() as u64) + (k.0 as u64) * (self.phase.value() as u64),
             d,
         );
         self.scaled(k, phase, d, n)
     }
 
     // The commutation number of (δ, v, w) and (ε, s, t), by all their entries: w·s − v·t. It needs no support word.
-    pub fn full_commutation(self, other: Pauli, d: u16, n: usize) -> Residue
-        requires { Dimension d × (n ≤ 16) }
+    #[tactic(auto, using(crate::proofs::Change::commutation_number_lem))]
+    pub fn full_commutation(self, other: Pauli, d: Modulus, n: Width) -> Residue
         ensures { result.0 ≡ comm d (view n self) (view n other) }
     {
-        let v = self.v;
-        let w = self.w;
-        let s = other.v;
-        let t = other.w;
-        let ws = Residue::reduced(crate::arrays::sum_of_products(w, s, n), d);
-        let vt = Residue::reduced(crate::arrays::sum_of_products(v, t, n), d);
+        let ws = Residue::reduced(crate::arrays::sum_of_products(self.w, other.v, n), d);
+        let vt = Residue::reduced(crate::arrays::sum_of_products(self.v, other.w, n), d);
         ws.minus(vt, d)
     }
 
     // The commutation number: 0 where no qudit is touched by both, and then no entry is looked at.
-    pub fn commutation(self, other: Pauli, d: u16, n: usize) -> Residue
-        requires dimension { Dimension d × (n ≤ 16) }
+    pub fn commutation(self, other: Pauli, d: Modulus, n: Width) -> Residue
         requires words { WordTrue n self × WordTrue n other }
         ensures { result.0 ≡ comm d (view n self) (view n other) }
     {
@@ -163,43 +149,31 @@ impl Pauli {
     }
 
     // The number δ + (d − 1)·(w·v) modulo 2, which is 0 where the d-th power is the identity.
-    pub fn parity(self, d: u16, n: usize) -> u16
-        requires { Dimension d × (n ≤ 16) }
+    pub fn parity(self, d: Modulus, n: Width) -> u16
         ensures { result ≡ parity d (view n self) }
     {
-        let v = self.v;
-        let w = self.w;
-        let delta = self.phase;
-        let sum = crate::arrays::sum_of_products(w, v, n);
-        arith::residue::remainder((delta.value() as u64) + ((d as u64) - 1) * sum, 2)
+        let sum = crate::arrays::sum_of_products(self.w, self.v, n);
+        arith::residue::remainder(
+            (self.phase.value() as u64) + ((d.value() as u64) - 1) * sum,
+            2,
+        )
     }
 
     // 5: the phase below 2d, then every v and every w below d.
     #[tactic(auto, unfolding(crate::specs::Range::pauli_range_of))]
-    pub fn range(self, d: u16, n: usize) -> Check
-        requires { Dimension d × (n ≤ 16) }
+    pub fn range(self, d: Modulus, n: Width) -> Result<(), Refusal>
         ensures { number_of result ≡ pauli_range_of d (view n self) }
     {
-        let phase = self.phase;
-        let v = self.v;
-        let w = self.w;
-        let of_phase = arith::checks::range(2 * d, phase.value());
-        let Check::Good = of_phase else {
-            return of_phase;
-        };
-        crate::arrays::bounds(v, w, d, n)
+        arith::checks::range(2 * d.value(), self.phase.value())?;
+        crate::arrays::bounds(self.v, self.w, d, n)
     }
 
     // 5 of this Pauli, then of the other.
     #[tactic(auto, unfolding(crate::specs::Range::pair_range_of))]
-    pub fn pair_range(self, other: Pauli, d: u16, n: usize) -> Check
-        requires { Dimension d × (n ≤ 16) }
+    pub fn pair_range(self, other: Pauli, d: Modulus, n: Width) -> Result<(), Refusal>
         ensures { number_of result ≡ pair_range_of d (view n self) (view n other) }
     {
-        let of_self = self.range(d, n);
-        let Check::Good = of_self else {
-            return of_self;
-        };
+        self.range(d, n)?;
         other.range(d, n)
     }
 }

@@ -1,16 +1,18 @@
 // Which qudits a Pauli touches: bit i of its support word is set exactly when v or w at qudit i, counted from 0, isn't 0.
-ghost use Rattle.std.specs.Prelude.{◌≡◌, ◌+◌, ◌≤◌, ◌<◌, get_or};
-ghost use Rattle.arith.specs.Bytes.{tab};
+ghost use Rattle.std.specs.Prelude.{◌≡◌, ◌<◌};
 ghost use Rattle.pauli.specs.Support.{mark, marks, word_of};
+ghost use Rattle.pauli.specs.Inner.View.{entries};
 ghost use Rattle.pauli.specs.Inner.Words.{Joins, Changes};
 
+use arith::modulus::Width;
 use arith::residue::Residue;
 
 // 1 for a qudit that is touched, 0 for any other.
+#[tactic(auto, unfolding(crate::specs::Support::mark))]
 fn mark(x: Residue, z: Residue) -> u16
     ensures { (result ≡ mark x.0 z.0) × (result < 2) }
 {
-    if x.value() | z.value() == 0 {
+    if x == Residue::ZERO && z == Residue::ZERO {
         return 0;
     }
     1
@@ -33,16 +35,13 @@ pub fn with_entries(word: u16, i: u16, x: Residue, z: Residue) -> u16
     word ^ ((old ^ mark(x, z)) << i)
 }
 
-// The word of n qudits, whose v are the numbers from number v on, and whose w those from number w on.
-pub fn word_from(a: &[u16; 33], v: usize, w: usize, n: usize) -> u16
-    requires { (n ≤ 16) × ((v + n ≤ 33) × (w + n ≤ 33)) }
-    ensures { result ≡ word_of (marks (tab (λ i. get_or a.now (v + i) 0) n) (tab (λ i. get_or a.now (w + i) 0) n)) }
+// The word of n qudits with these entries.
+pub fn word_of(v: &[Residue; 16], w: &[Residue; 16], n: Width) -> u16
+    ensures { result ≡ word_of (marks (entries n v.now) (entries n w.now)) }
 {
     let mut word: u16 = 0;
-    for i in 0..n {
-        let x = Residue::lent(a[v + i]);
-        let z = Residue::lent(a[w + i]);
-        word = with_next(word, i, x, z);
+    for i in 0..n.value() {
+        word = with_next(word, i, v[i], w[i]);
     }
     word
 }

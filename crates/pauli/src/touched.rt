@@ -1,12 +1,12 @@
 // The effect of each kind of gate row on the numbers that it touches: the phase, and v and w at its qudits i and j.
 // A kind on one qudit takes j as i, and makes the same of both.
 ghost use Rattle.std.specs.Prelude.{◌≡◌, ◌+◌, ◌≤◌, eqb};
-ghost use Rattle.arith.specs.Refusals.{Dimension};
 ghost use Rattle.arith.specs.Units.{inverse_of};
 ghost use Rattle.pauli.specs.Inner.Touched.{view_touched, still, OnOne, OnTwo};
 ghost use Rattle.pauli.specs.Effects.{fourier, effect_f, effect_s, effect_a, effect_m, effect_x, effect_z, effect_c, effect_w};
 
-use arith::residue::{Phase, Power, Residue};
+use arith::modulus::Modulus;
+use arith::residue::{Modular, Phase, Power, Residue};
 
 #[derive(Clone, Copy)]
 pub struct Touched {
@@ -22,7 +22,7 @@ fn on_one(phase: Phase, v: Residue, w: Residue) -> Touched
     ensures { result ≡ record { phase = phase; vi = v; wi = w; vj = v; wj = w } }
 {
     Touched {
-        phase: phase,
+        phase,
         vi: v,
         wi: w,
         vj: v,
@@ -30,17 +30,16 @@ fn on_one(phase: Phase, v: Residue, w: Residue) -> Touched
     }
 }
 
-// Whether both are 0: one test for v and w of a qudit, since a test of each is guessed wrongly more often.
+// Whether both are 0. The compiler makes one test of v and w of a qudit, since neither comparison has an effect: a test of each is guessed wrongly more often.
 fn both_zero(v: Residue, w: Residue) -> bool
     ensures { result ≡ eqb (v.0 + w.0) 0 }
 {
-    (v.value() as u64) + (w.value() as u64) == 0
+    v == Residue::ZERO && w == Residue::ZERO
 }
 
 impl Touched {
     // F once: δ − 2·vi·wi, then vi, wi become −wi, vi.
-    pub fn fourier(self, d: u16) -> Touched
-        requires { Dimension d }
+    pub fn fourier(self, d: Modulus) -> Touched
         ensures { OnOne (λ i p. fourier d i p) (view_touched self) (view_touched result) }
     {
         let phase = self.phase;
@@ -51,8 +50,7 @@ impl Touched {
     }
 
     // F twice: v and w become −v and −w, and the phases that the two add cancel.
-    fn half_turn(self, d: u16) -> Touched
-        requires { Dimension d }
+    fn half_turn(self, d: Modulus) -> Touched
         ensures { OnOne (λ i p. fourier d i (fourier d i p)) (view_touched self) (view_touched result) }
     {
         let phase = self.phase;
@@ -62,8 +60,7 @@ impl Touched {
     }
 
     // F: k times. Two at a time, and one more where k is odd.
-    pub fn effect_f(self, k: Power, d: u16) -> Touched
-        requires { Dimension d }
+    pub fn effect_f(self, k: Power, d: Modulus) -> Touched
         ensures { OnOne (λ i p. effect_f d i k.0 p) (view_touched self) (view_touched result) }
     {
         let times = k.0;
@@ -78,8 +75,7 @@ impl Touched {
     }
 
     // S: δ + k·vi·(vi + d), wi + k·vi.
-    pub fn effect_s(self, k: Power, d: u16) -> Touched
-        requires { Dimension d }
+    pub fn effect_s(self, k: Power, d: Modulus) -> Touched
         ensures { OnOne (λ i p. effect_s d i k.0 p) (view_touched self) (view_touched result) }
     {
         let phase = self.phase;
@@ -90,8 +86,7 @@ impl Touched {
     }
 
     // A: vj + k·vi, wi − k·wj.
-    pub fn effect_a(self, k: Power, d: u16) -> Touched
-        requires { Dimension d }
+    pub fn effect_a(self, k: Power, d: Modulus) -> Touched
         ensures { OnTwo (λ i j p. effect_a d i j k.0 p) (view_touched self) (view_touched result) }
     {
         Touched {
@@ -102,8 +97,7 @@ impl Touched {
     }
 
     // M: vi becomes k·vi, wi becomes k'·wi, with the inverse k' given.
-    pub fn effect_m(self, k: Power, inverse: Residue, d: u16) -> Touched
-        requires dimension { Dimension d }
+    pub fn effect_m(self, k: Power, inverse: Residue, d: Modulus) -> Touched
         requires inverse { inverse.0 ≡ inverse_of d k.0 }
         ensures { OnOne (λ i p. effect_m d i k.0 p) (view_touched self) (view_touched result) }
     {
@@ -114,8 +108,7 @@ impl Touched {
     }
 
     // X: δ − 2·k·wi.
-    pub fn effect_x(self, k: Power, d: u16) -> Touched
-        requires { Dimension d }
+    pub fn effect_x(self, k: Power, d: Modulus) -> Touched
         ensures { OnOne (λ i p. effect_x d i k.0 p) (view_touched self) (view_touched result) }
     {
         let phase = self.phase;
@@ -126,8 +119,7 @@ impl Touched {
     }
 
     // Z: δ + 2·k·vi.
-    pub fn effect_z(self, k: Power, d: u16) -> Touched
-        requires { Dimension d }
+    pub fn effect_z(self, k: Power, d: Modulus) -> Touched
         ensures { OnOne (λ i p. effect_z d i k.0 p) (view_touched self) (view_touched result) }
     {
         let phase = self.phase;
@@ -138,8 +130,7 @@ impl Touched {
     }
 
     // C: wi + k·vj, wj + k·vi, δ + 2·k·vi·vj.
-    pub fn effect_c(self, k: Power, d: u16) -> Touched
-        requires { Dimension d }
+    pub fn effect_c(self, k: Power, d: Modulus) -> Touched
         ensures { OnTwo (λ i j p. effect_c d i j k.0 p) (view_touched self) (view_touched result) }
     {
         let times_x = self.vi.scaled(k, d);
@@ -166,10 +157,11 @@ impl Touched {
     }
 
     // Whether no row changes them: v and w are 0 at its qudits, and the phase is below 2d, so that no row reduces it.
-    pub fn still(self, d: u16) -> bool
-        requires { Dimension d }
+    pub fn still(self, d: Modulus) -> bool
         ensures { result ≡ still d (view_touched self) }
     {
-        both_zero(self.vi, self.wi) && both_zero(self.vj, self.wj) && self.phase.value() < 2 * d
+        both_zero(self.vi, self.wi)
+            && both_zero(self.vj, self.wj)
+            && self.phase.value() < 2 * d.value()
     }
 }

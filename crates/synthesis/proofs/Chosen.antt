@@ -2,6 +2,7 @@
 use mathlib.Core.Path.{◌≡◌, sym, ◌∙◌, ap}
 use mathlib.Core.Logic.{◌≢◌}
 use mathlib.Core.List.{List, map}
+use Rattle.std.specs.Prelude.{Result}
 use Prim.Native.Nat.{ℕ, ◌*◌}
 use native.Mathlib.Omega.{arith}
 use lib.ListN.{length, take, drop, length-map}
@@ -11,7 +12,7 @@ use Rattle.arith.proofs.Cases.{by_eq}
 use Rattle.arith.specs.declared.checks.Answer.{Answer}
 use Rattle.arith.specs.Refusals.{number_of}
 use Rattle.arith.proofs.Refusals.{Stops, stops_some}
-use Rattle.arith.specs.declared.checks.Check.{Check}
+use Rattle.arith.specs.declared.checks.Refusal.{Refusal}
 use Rattle.gates.specs.Written.{written, rows_of}
 use Rattle.gates.proofs.Written.{rows_bytes}
 use Rattle.tableau.specs.Bytes.{decode_tableau}
@@ -26,7 +27,7 @@ chosen_accepted {d} {n} {bytes} {new} {a} old v f =
     let k : length (list_of d n bytes) ≡ 8 * a.value = omega (arith, rows_bytes (map written rows), length-map rows written) in
     record { list = λ z. ap (take (8 * a.value)) f ∙ take_at (list_of d n bytes) (drop (length (list_of d n bytes)) old) (8 * a.value) k }
 
-pub chosen_refused : {d n z : ℕ} {bytes new : List ℕ} {a : Answer} {r : Check} → Stops r z → a.number ≡ number_of r → Chosen d n bytes new a
+pub chosen_refused : {A : Type 0} {d n z : ℕ} {bytes new : List ℕ} {a : Answer} {r : Result A Refusal} → Stops r z → a.number ≡ number_of r → Chosen d n bytes new a
 chosen_refused s e = record { list = λ z. absurd (stops_some s (sym (e ∙ s.same) ∙ z)) }
 
 -- ---- what an output held before makes no difference

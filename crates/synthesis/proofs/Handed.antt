@@ -2,6 +2,7 @@
 use mathlib.Core.Path.{◌≡◌, refl, sym, ◌∙◌, ap, subst}
 use mathlib.Core.List.{List, ◌++◌, map, map-map, reverse, reverse-reverse}
 use mathlib.Core.Logic.{◌≢◌, ◌↔◌, ◌⊎◌}
+use Rattle.std.specs.Prelude.{Result}
 use Prim.Native.Nat.{ℕ, ◌+◌, ◌*◌, ◌≤◌, ◌<◌}
 use native.Mathlib.Nat.{mul-le-mul}
 use native.Mathlib.Omega.{arith}
@@ -12,7 +13,7 @@ use Rattle.arith.proofs.Bytes.{write_front}
 use Rattle.arith.specs.Refusals.{or_else, room_of}
 use Rattle.arith.proofs.Refusals.{Stops, stops_some, or_else_none, or_else_skip, or_else_assoc}
 use Rattle.arith.specs.Refusals.{number_of}
-use Rattle.arith.specs.declared.checks.Check.{Check}
+use Rattle.arith.specs.declared.checks.Refusal.{Refusal}
 use Rattle.arith.specs.declared.checks.Answer.{Answer}
 use Rattle.pauli.specs.Pauli.{Pauli}
 use Rattle.gates.specs.Row.{Row, run, undo}
@@ -122,7 +123,7 @@ module _ {d n : ℕ} {bytes old new : List ℕ} {a : Answer} (e : a.number ≡ s
       promise (λ q. hands_back w.0.dimension.d_low (formed_given w.0) w.1 v f) (λ ne. absurd (ne z))
 
 -- where it is refused
-pub promise_refused : {d n : ℕ} {bytes old : List ℕ} {a : Answer} {r : Check} → Stops r (synthesis_refusal d n bytes (length old)) → (a.number ≡ number_of r) × (a.value ≡ 0) → Synthesised d n bytes old old a
-promise_refused {d} {n} {bytes} {old} {a} s e =
+pub promise_refused : {A : Type 0} {d n : ℕ} {bytes old : List ℕ} {a : Answer} {r : Result A Refusal} → Stops r (synthesis_refusal d n bytes (length old)) → (a.number ≡ number_of r) × (a.value ≡ 0) → Synthesised d n bytes old old a
+promise_refused {d = d} {n = n} {bytes = bytes} {old = old} {a = a} s e =
     let q : a.number ≡ synthesis_refusal d n bytes (length old) = e.0 ∙ s.same in
     promise q (λ z. absurd (stops_some s (sym q ∙ z))) (λ ne. (e.1, refl))

@@ -4,6 +4,7 @@ pub mod Count
 pub mod CountSecond
 pub mod Premises
 pub mod Demand3
+pub mod Did
 pub mod Entries
 pub mod Examples
 pub mod Expected

@@ -3,23 +3,28 @@ use mathlib.Core.Path.{◌≡◌, refl, sym, ◌∙◌, ap, subst}
 use mathlib.Core.Bool.{Bool, cond}
 use mathlib.Core.List.{List, [], ◌∷◌, ◌++◌, map, append_assoc, reverse-cons}
 use mathlib.Core.Logic.{◌≢◌}
-use Prim.Native.Nat.{ℕ, suc, ◌+◌, ◌*◌, ◌-◌, ◌≤◌, ◌<◌}
-use native.Mathlib.Nat.{add-zero}
+use Rattle.std.specs.Prelude.{Option, None, Some}
+use Prim.Native.Nat.{ℕ, suc, ◌+◌, ◌*◌, ◌-◌, ◌%◌, ◌≤◌, ◌<◌}
+use native.Mathlib.Nat.{add-zero, mod-lt}
 use native.Mathlib.Omega.{arith}
 use lib.ListN.{length, length-map, length-reverse}
 use lib.Seq.{sets}
 use lib.Dec.{eqb}
 use Rattle.arith.specs.Bytes.{bytes_of}
 use Rattle.arith.proofs.Bytes.{write_more}
+use Rattle.arith.specs.Units.{IsUnit}
 use Rattle.arith.proofs.Cases.{eqb_case, by_eq}
+use Rattle.arith.proofs.Units.{unit_pos}
 use Rattle.pauli.specs.Pauli.{Pauli}
-use Rattle.gates.specs.Row.{Row, F, A, X, Z, Legal, apply, undo}
+use Rattle.gates.specs.Row.{Row, F, S, A, M, X, Z, Legal, apply, undo}
 use Rattle.gates.specs.Written.{WrittenRow, on_one, on_two, written, meant, row_numbers, list_numbers, encode_rows}
+use Rattle.gates.specs.Inner.View.{view_row}
+use Rattle.gates.specs.declared.Row.{Row as Code}
 use Rattle.gates.proofs.Written.{legal_written, meant_of_written, list_numbers_length}
 use Rattle.tableau.specs.Tableau.{up_from}
-use Rattle.synthesis.specs.Inner.Reduce.{State, put, put_a, put_x, put_z, each, start}
-use Rattle.synthesis.specs.Inner.Progress.{undo_rows, Holds, Does, Says}
-use Rattle.synthesis.proofs.Steps.{each_more}
+use Rattle.synthesis.specs.Inner.Reduce.{State, near_power, put, put_s, put_a, put_m, put_x, put_z, each, start}
+use Rattle.synthesis.specs.Inner.Progress.{undo_rows, Holds, Does, put_made, Says}
+use Rattle.synthesis.proofs.Steps.{near_low, near_high, each_more}
 
 -- ---- rows in bytes
 numbers_append : (ws us : List WrittenRow) → list_numbers (ws ++ us) ≡ list_numbers ws ++ list_numbers us
@@ -100,54 +105,64 @@ module _ {d : ℕ} {t t' : List Pauli} {out out' : List ℕ} {count count' : ℕ
   does_then {f = f} a b = record { does = λ first old s h. b.does first old (f s) (a.does first old s h); within = omega (arith, a.within, b.within) }
 
 -- ---- the row that a step puts behind
-pub says_does : {d n : ℕ} {f : State → State} {t t' : List Pauli} {out out' : List ℕ} {count count' : ℕ} {w : WrittenRow} → Says d n f t w → w.power ≢ 0
-    → Does d 1 (put d (meant w)) t out count t' out' count' → Does d 1 f t out count t' out' count'
-says_does {f = f} a ne b = does_as f (λ s h. a.puts ne s h) b
+pub says_does : {d n k : ℕ} {f : State → State} {t t' : List Pauli} {out out' : List ℕ} {count count' : ℕ} {made : Option Code} → Says d n f t made
+    → Does d k (put_made d made) t out count t' out' count' → Does d k f t out count t' out' count'
+says_does {f = f} a b = does_as f (λ s h. a.puts s h) b
+
+-- none: nothing is done
+pub says_does_none : {d n : ℕ} {f : State → State} {t : List Pauli} {out : List ℕ} {count : ℕ} {made : Option Code} → Says d n f t made → made ≡ None → Does d 1 f t out count t out count
+says_does_none {d} {t = t} {out = out} {count = count} {made = made} a e =
+    record { does = λ first old s h. subst (λ (z : State). Holds d first old t out count z) (ap (λ (m : Option Code). put_made d m s) (sym e) ∙ a.puts s h.tableau) h; within = omega arith }
 
 -- a step whose power is read off the tableau
-pub says_power : {d n k : ℕ} {t : List Pauli} {w : WrittenRow} (f : ℕ → State → State) (power : List Pauli → ℕ) → k ≡ power t → Says d n (f k) t w → Says d n (λ s. f (power s.tableau) s) t w
-says_power f power e a = record {
-  idle = λ z s h. a.idle z s h ∙ ap (λ (x : ℕ). f x s) (e ∙ ap power h);
-  legal = a.legal;
-  puts = λ ne s h. a.puts ne s h ∙ ap (λ (x : ℕ). f x s) (e ∙ ap power h);
-}
+pub says_power : {d n k : ℕ} {t : List Pauli} {made : Option Code} (f : ℕ → State → State) (power : List Pauli → ℕ) → k ≡ power t → Says d n (f k) t made → Says d n (λ s. f (power s.tableau) s) t made
+says_power f power e a = record { legal = a.legal; puts = λ s h. a.puts s h ∙ ap (λ (x : ℕ). f x s) (e ∙ ap power h) }
 
-module _ (d n : ℕ) {t : List Pauli} {w : WrittenRow} where
+module _ (d n : ℕ) {t : List Pauli} where
   -- the row x with power k, where k does something unless it is `none`
-  pub says_row : {none k : ℕ} (x : Row) → w ≡ written x → k ≢ none → w.power ≢ 0 → Legal d n x → Says d n (λ s. cond (eqb k none) s (put d x s)) t w
-  says_row {none} {k} x e ne some l = record {
-    idle = λ z. absurd (some z);
-    legal = λ o. rw e (legal_written d n x l);
-    puts = λ o s h. eqb_case (λ b. put d (meant w) s ≡ cond b s (put d x s)) k none (λ q. absurd (ne q)) (λ q. ap (λ (y : Row). put d y s) (ap meant e ∙ meant_of_written x));
+  pub says_row : {none k : ℕ} {row : Code} (x : Row) → view_row row ≡ written x → k ≢ none → Legal d n x → Says d n (λ s. cond (eqb k none) s (put d x s)) t (Some row)
+  says_row {none} {k} {row} x e ne l = record {
+    legal = rw e (legal_written d n x l);
+    puts = λ s h. eqb_case (λ b. put d (meant (view_row row)) s ≡ cond b s (put d x s)) k none (λ q. absurd (ne q)) (λ q. ap (λ (y : Row). put d y s) (ap meant e ∙ meant_of_written x));
   }
 
-  pub says_none : {none k : ℕ} (g : State → State) → k ≡ none → w.power ≡ 0 → Says d n (λ s. cond (eqb k none) s (g s)) t w
-  says_none {none} {k} g e z = record {
-    idle = λ o s h. eqb_case (λ b. s ≡ cond b s (g s)) k none (λ q. refl) (λ ne. absurd (ne e));
-    legal = λ ne. absurd (ne z);
-    puts = λ ne. absurd (ne z);
-  }
+  pub says_none : {none k : ℕ} (g : State → State) → k ≡ none → Says d n (λ s. cond (eqb k none) s (g s)) t None
+  says_none {none} {k} g e = record { legal = tt; puts = λ s h. eqb_case (λ b. s ≡ cond b s (g s)) k none (λ q. refl) (λ ne. absurd (ne e)) }
 
-  -- a kind whose power 0 does nothing
-  says_unless : {k : ℕ} (x : Row) → w ≡ written x → w.power ≡ k → (k ≢ 0 → Legal d n x) → Says d n (λ s. cond (eqb k 0) s (put d x s)) t w
-  says_unless {k} x e p l = by_eq k 0 (λ z. says_none (put d x) z (p ∙ z)) (λ ne. says_row x e ne (λ z. ne (sym p ∙ z)) (l ne))
+  -- a kind that has a power, `none`, which does nothing
+  pub says_unless : {none k : ℕ} {row : Code} {made : Option Code} (x : Row) → view_row row ≡ written x → row.power ≡ k → made ≡ cond (eqb row.power none) None (Some row)
+      → (k ≢ none → Legal d n x) → Says d n (λ s. cond (eqb k none) s (put d x s)) t made
+  says_unless {none} {k} {row} {made} x e p m l =
+      let q : made ≡ cond (eqb k none) None (Some row) = m ∙ ap (λ (y : ℕ). cond (eqb y none) None (Some row)) p in
+      by_eq k none (λ z. rw (q ∙ eqb_case (λ b. cond b None (Some row) ≡ None) k none (λ o. refl) (λ ne. absurd (ne z))) (says_none (put d x) z))
+      (λ ne. rw (q ∙ eqb_case (λ b. cond b None (Some row) ≡ Some row) k none (λ o. absurd (ne o)) (λ o. refl)) (says_row x e ne (l ne)))
 
-  pub says_a : (i j k : ℕ) → w ≡ on_two 3 i j k → i < n → j < n → i ≢ j → k < d → Says d n (put_a d i j k) t w
-  says_a i j k e l l' ij m = says_unless (A i j k) e (ap (λ (v : WrittenRow). v.power) e)
+  pub says_a : (i j k : ℕ) {row : Code} {made : Option Code} → view_row row ≡ on_two 3 i j k → made ≡ cond (eqb row.power 0) None (Some row) → i < n → j < n → i ≢ j → k < d → Says d n (put_a d i j k) t made
+  says_a i j k e m l l' ij h = says_unless (A i j k) e (ap (λ (w : WrittenRow). w.power) e) m
       (λ ne. (record { from_qudit = l; to_qudit = l'; apart = ij }, record { qudit = l; power_low = omega arith; power_high = omega arith }))
 
-  pub says_x : (i k : ℕ) → w ≡ on_one 5 i k → i < n → k < d → Says d n (put_x d i k) t w
-  says_x i k e l m = says_unless (X i k) e (ap (λ (v : WrittenRow). v.power) e) (λ ne. record { qudit = l; power_low = omega arith; power_high = omega arith })
+  pub says_m : (i k : ℕ) {row : Code} {made : Option Code} → view_row row ≡ on_one 4 i k → made ≡ cond (eqb row.power 1) None (Some row) → 1 < d → IsUnit d k → i < n → k < d → Says d n (put_m d i k) t made
+  says_m i k e m one u l h = says_unless (M i k) e (ap (λ (w : WrittenRow). w.power) e) m (λ ne. (u, record { qudit = l; power_low = unit_pos d k one u; power_high = omega arith }))
 
-  pub says_z : (i k : ℕ) → w ≡ on_one 6 i k → i < n → k < d → Says d n (put_z d i k) t w
-  says_z i k e l m = says_unless (Z i k) e (ap (λ (v : WrittenRow). v.power) e) (λ ne. record { qudit = l; power_low = omega arith; power_high = omega arith })
+  pub says_x : (i k : ℕ) {row : Code} {made : Option Code} → view_row row ≡ on_one 5 i k → made ≡ cond (eqb row.power 0) None (Some row) → i < n → k < d → Says d n (put_x d i k) t made
+  says_x i k e m l h = says_unless (X i k) e (ap (λ (w : WrittenRow). w.power) e) m (λ ne. record { qudit = l; power_low = omega arith; power_high = omega arith })
+
+  pub says_z : (i k : ℕ) {row : Code} {made : Option Code} → view_row row ≡ on_one 6 i k → made ≡ cond (eqb row.power 0) None (Some row) → i < n → k < d → Says d n (put_z d i k) t made
+  says_z i k e m l h = says_unless (Z i k) e (ap (λ (w : WrittenRow). w.power) e) m (λ ne. record { qudit = l; power_low = omega arith; power_high = omega arith })
+
+  -- a multiple of d is no row, any other power makes the row of the definition
+  pub says_s_none : (i k : ℕ) → k % d ≡ 0 → Says d n (put_s d i k) t None
+  says_s_none i k e = says_none (put d (S i (near_power d (k % d)))) e
+
+  pub says_s : (i k : ℕ) {row : Code} → view_row row ≡ on_one 2 i (near_power d (k % d)) → 0 < d → i < n → k % d ≢ 0 → Says d n (put_s d i k) t (Some row)
+  says_s i k e pos l ne =
+      says_row (S i (near_power d (k % d))) e ne (record { qudit = l; power_low = near_low d (k % d) (omega arith); power_high = near_high d (k % d) (mod-lt k pos) })
 
   -- F is put behind whatever the tableau is
-  pub says_f : (i k : ℕ) → w ≡ on_one 1 i k → i < n → (1 ≤ k) × (k ≤ 3) → Says d n (put d (F i k)) t w
+  pub says_f : (i k : ℕ) {row : Code} → view_row row ≡ on_one 1 i k → i < n → (1 ≤ k) × (k ≤ 3) → Says d n (put d (F i k)) t (Some row)
   says_f i k e l m = record {
-    idle = λ z. absurd (omega (arith, z, ap (λ (v : WrittenRow). v.power) e, m));
-    legal = λ o. rw e (legal_written d n (F i k) (record { qudit = l; power_low = m.0; power_high = m.1 }));
-    puts = λ o s h. ap (λ (y : Row). put d y s) (ap meant e ∙ meant_of_written (F i k));
+    legal = rw e (legal_written d n (F i k) (record { qudit = l; power_low = m.0; power_high = m.1 }));
+    puts = λ s h. ap (λ (y : Row). put d y s) (ap meant e ∙ meant_of_written (F i k));
   }
 
 -- ---- loops: the steps for the numbers from k on, before the turn of j
@@ -173,7 +188,3 @@ module _ {d : ℕ} {t : List Pauli} {out : List ℕ} {count : ℕ} where
     does = λ first old s z. subst (λ (u : State). Holds d first old t'' out'' count'' u) (up_more f k j s h) (y.does first old (up_to f k j s) (x.does first old s z));
     within = l;
   }
-
--- none: at a power of 0 nothing is done
-pub says_does_none : {d n : ℕ} {f : State → State} {t : List Pauli} {out : List ℕ} {count : ℕ} {w : WrittenRow} → Says d n f t w → w.power ≡ 0 → Does d 1 f t out count t out count
-says_does_none {d} {t = t} {out = out} {count = count} a e = record { does = λ first old s h. subst (λ (z : State). Holds d first old t out count z) (a.idle e s h.tableau) h; within = omega arith }

@@ -1,3 +1,3 @@
 pub mod Reduce
-pub mod Turns
 pub mod Progress
+pub mod Did

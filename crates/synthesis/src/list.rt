@@ -1,10 +1,22 @@
-// The list handed back: the rows written so far, reversed in place.
+// The list handed back: rows written to the output, and those written so far reversed in place.
 ghost use Rattle.std.specs.Prelude.{◌≡◌, List, [], ◌∷◌, ◌++◌, reverse, ℕ, ◌+◌, ◌*◌, ◌≤◌, length};
 ghost use Rattle.std.proofs.lemmas.List.Edits.{sets};
+ghost use Rattle.gates.specs.Inner.View.{view_row};
 ghost use Rattle.gates.specs.Written.{WrittenRow, row_at, encode_rows};
 
-use crate::put::write_row;
+use gates::Row;
 use gates::lists::read_row;
+
+// Writes a row as row r of the output.
+pub fn write_row(row: Row, out: &mut [u8], r: usize)
+    requires { 8 * (r + 1) ≤ length out.old }
+    ensures { out.new ≡ sets out.old (8 * r) (encode_rows (view_row row ∷ [])) }
+{
+    let numbers = [row.kind, row.first, row.second, row.power];
+    for (i, number) in numbers.iter().enumerate() {
+        arith::numbers::put(out, 4 * r + i, *number);
+    }
+}
 
 // Swaps rows a and b.
 fn swap_rows(out: &mut [u8], a: usize, b: usize)
@@ -17,7 +29,7 @@ fn swap_rows(out: &mut [u8], a: usize, b: usize)
     write_row(x, out, b);
 }
 
-// Reverses the first `count` rows; no later byte changes.
+// Reverses the first `count` rows; no later byte changes. The library reverses a slice of arrays, but says nothing of the bytes that such a slice is lent from.
 pub fn reverse_rows(out: &mut [u8], count: usize)
     requires { 8 * count ≤ length out.old }
     ensures { (ws : List WrittenRow) (rest : List ℕ) → length ws ≡ count → out.old ≡ encode_rows ws ++ rest → out.new ≡ encode_rows (reverse ws) ++ rest }

@@ -1,126 +1,175 @@
-// The turns of the reduction: which row each puts behind next.
-ghost use Rattle.std.specs.Prelude.{◌≡◌, cond, List, ℕ, ◌*◌, ◌≤◌, ◌<◌, ltb};
+// The turns of the reduction: which row each puts behind next, if any.
+ghost use Rattle.std.specs.Prelude.{◌≡◌, ◌≢◌, cond, List, ℕ, ◌*◌, ◌≤◌, ◌<◌, eqb, ltb, get_or, None, Some};
 ghost use Rattle.arith.specs.Units.{IsUnit};
-ghost use Rattle.arith.specs.Refusals.{Dimension};
 ghost use Rattle.pauli.specs.Pauli.{Pauli};
-ghost use Rattle.gates.specs.Written.{on_one, on_two};
-ghost use Rattle.gates.specs.Inner.View.{view_row};
-ghost use Rattle.tableau.specs.Inner.View.{table_view};
-ghost use Rattle.synthesis.specs.Inner.Reduce.{put_s, put_m};
+ghost use Rattle.gates.specs.Row.{F};
+ghost use Rattle.tableau.specs.Tableau.{column};
+ghost use Rattle.synthesis.specs.Inner.Reduce.{put, put_s, put_a, gather_w, exchange, clear_w, gather, scale, clear_v, clear_partner_w, clear_partner_v, shear_partner, clear_z, clear_x};
 ghost use Rattle.synthesis.specs.Inner.Progress.{Says};
-ghost use Rattle.synthesis.specs.Inner.Turns.{turn_of, Asks};
+ghost use Rattle.synthesis.specs.Inner.Did.{seen, Makes};
 
-use arith::residue::Residue;
+use crate::columns::Columns;
+use arith::divisor::{inverse, least_multiplier};
+use arith::modulus::Modulus;
+use arith::residue::{Modular, Residue};
 use gates::Row;
-use tableau::table::{phase_at, v_at, w_at};
+use gates::kind::Kind;
 
-// The turns: those of column c at qudit j, S on qudit j with power k, those of a later qudit j, those of the stage's qudit q, and those of its phases.
-#[derive(Clone, Copy)]
-pub enum Turn {
-    GatherW(usize),
-    Exchange(usize),
-    Shear(u16),
-    Gather,
-    Scale,
-    ClearV,
-    ClearPartnerW,
-    ClearPartnerV,
-    ShearPartner,
-    Fourier(u16),
-    PhaseZ,
-    PhaseX,
-}
-
-// A row on qudit i, counted from 0.
-fn on_one(kind: u16, i: usize, k: u16) -> Row
-    requires { i < 16 }
-    ensures { view_row result ≡ on_one kind i k }
+// The row, unless its power is `idle`, which does nothing.
+fn unless(idle: u16, row: Row) -> Option<Row>
+    ensures { result ≡ cond (eqb row.power idle) None (Some row) }
 {
-    Row {
-        kind: kind,
-        first: (i as u16) + 1,
-        second: 0,
-        power: k,
-    }
+    if row.power == idle { None } else { Some(row) }
 }
 
-// A from qudit i to qudit j.
-fn by_a(i: usize, j: usize, k: Residue) -> Row
+// A from qudit i to qudit j; a power of 0 is no row.
+fn by_a(i: usize, j: usize, k: Residue) -> Option<Row>
     requires { (i < 16) × (j < 16) }
-    ensures { view_row result ≡ on_two 3 i j k.0 }
+    ensures { (d n : ℕ) (t : List Pauli) → i < n → j < n → i ≢ j → k.0 < d → Says d n (put_a d i j k.0) t result }
 {
-    Row {
-        kind: 3,
-        first: (i as u16) + 1,
-        second: (j as u16) + 1,
-        power: k.value(),
+    unless(0, Row::on_two(Kind::A, i, j, k.value()))
+}
+
+// S on qudit i, with the power nearer to 0 of the two that do to the entries what k does; a multiple of d is no row.
+fn by_s(i: usize, k: Residue, d: Modulus) -> Option<Row>
+    requires { i < 16 }
+    ensures { (n : ℕ) (t : List Pauli) → i < n → Says d n (put_s d i k.0) t result }
+{
+    let m = d.value();
+    let low = k.value() % m;
+    if low == 0 {
+        return None;
     }
+    let near = if 2 * low < m { low } else { low + m };
+    Some(Row::on_one(Kind::S, i, near))
 }
 
 // The power of F by which the new v, −w or w, is the lower.
-fn exchange_power(w: Residue, d: u16) -> u16
+fn exchange_power(w: Residue, d: Modulus) -> u16
     ensures { result ≡ cond (ltb d (2 * w.0)) 1 3 }
 {
-    if (d as u32) < 2 * (w.value() as u32) {
+    if (d.value() as u32) < 2 * (w.value() as u32) {
         return 1;
     }
     3
 }
 
-// S on qudit i, with the power nearer to 0 of the two that do to the entries what k does.
-fn by_s(i: usize, k: u16, d: u16) -> Row
-    requires { Dimension d × (i < 16) }
-    ensures { (n : ℕ) (t : List Pauli) → i < n → Says d n (put_s d i k) t (view_row result) }
-{
-    let low = k % d;
-    if low == 0 {
-        return on_one(2, i, 0);
+// ---- column c at qudit j
+impl Columns {
+    // S, after which gcd(w, d) divides v.
+    pub fn gather_w(&self, c: usize, j: usize) -> Option<Row>
+        requires { (c < 2 * self.now.n) × (j < self.now.n) }
+        ensures { Makes (λ d n. gather_w d n c j) self.now result }
+    {
+        let k = least_multiplier(self.w(c, j), self.v(c, j), self.d.value());
+        by_s(j, k, self.d)
     }
-    if 2 * low < d {
-        return on_one(2, i, low);
+
+    // F, by which v and w change places.
+    pub fn exchange(&self, c: usize, j: usize) -> Option<Row>
+        requires { (c < 2 * self.now.n) × (j < self.now.n) }
+        ensures { Makes (λ d n. exchange d n c j) self.now result }
+    {
+        Some(Row::on_one(Kind::F, j, exchange_power(self.w(c, j), self.d)))
     }
-    on_one(2, i, low + d)
+
+    // S with power k.
+    pub fn shear(&self, j: usize, k: Residue) -> Option<Row>
+        requires { j < self.now.n }
+        ensures { Makes (λ d n. put_s d j k.0) self.now result }
+    {
+        by_s(j, k, self.d)
+    }
+
+    // S, by which w becomes 0; none where no power does that.
+    pub fn clear_w(&self, c: usize, j: usize) -> Option<Row>
+        requires { (c < 2 * self.now.n) × (j < self.now.n) }
+        ensures { Makes (λ d n. clear_w d n c j) self.now result }
+    {
+        let k = self.clearing(c, j)?;
+        self.shear(j, k)
+    }
 }
 
-// M on qudit i; a power of 1 is no row.
-fn by_m(i: usize, k: Residue) -> Row
-    requires { i < 16 }
-    ensures { (d n : ℕ) (t : List Pauli) → 1 < d → k.0 < d → IsUnit d k.0 → i < n → Says d n (put_m d i k.0) t (view_row result) }
-{
-    let power = k.value();
-    if power == 1 {
-        return on_one(4, i, 0);
+// ---- the stage of qudit q, with a later qudit j
+impl Columns {
+    // A, after which gcd(v, d) of column q at q divides v at j.
+    pub fn gather(&self, q: usize, j: usize) -> Option<Row>
+        requires { (q < j) × (j < self.now.n) }
+        ensures { Makes (λ d n. gather d n q j) self.now result }
+    {
+        let k = least_multiplier(self.v(q, q), self.v(q, j), self.d.value());
+        by_a(j, q, k)
     }
-    on_one(4, i, power)
+
+    // M, by which v of column q becomes 1 at q.
+    pub fn scale(&self, q: usize) -> Option<Row>
+        requires place { q < self.now.n }
+        requires unit { IsUnit self.now.d (get_or (column self.now.n (seen self.now) q).v q 0) }
+        ensures { Makes (λ d n. scale d n q) self.now result }
+    {
+        let k = inverse(self.v(q, q), self.d);
+        unless(1, Row::on_one(Kind::M, q, k.value()))
+    }
+
+    // A, by which v of column q becomes 0 at j.
+    pub fn clear_v(&self, q: usize, j: usize) -> Option<Row>
+        requires { (q < j) × (j < self.now.n) }
+        ensures { Makes (λ d n. clear_v d n q j) self.now result }
+    {
+        by_a(q, j, self.v(q, j).negative(self.d))
+    }
+
+    // A, by which w of column n + q becomes 0 at j.
+    pub fn clear_partner_w(&self, q: usize, j: usize) -> Option<Row>
+        requires { (q < j) × (j < self.now.n) }
+        ensures { Makes (λ d n. clear_partner_w d n q j) self.now result }
+    {
+        by_a(j, q, self.w(self.n.value() + q, j).within(self.d.value()))
+    }
+
+    // A, by which v of column n + q becomes 0 at j, once F has been put behind at q.
+    pub fn clear_partner_v(&self, q: usize, j: usize) -> Option<Row>
+        requires { (q < j) × (j < self.now.n) }
+        ensures { Makes (λ d n. clear_partner_v d n q j) self.now result }
+    {
+        by_a(q, j, self.v(self.n.value() + q, j).within(self.d.value()))
+    }
+
+    // S, by which w of column n + q becomes 0 at q, between the two F.
+    pub fn shear_partner(&self, q: usize) -> Option<Row>
+        requires { q < self.now.n }
+        ensures { Makes (λ d n. shear_partner d n q) self.now result }
+    {
+        self.shear(q, self.w(self.n.value() + q, q))
+    }
+
+    // F with power k.
+    pub fn fourier(&self, q: usize, k: u16) -> Option<Row>
+        requires { (q < self.now.n) × ((1 ≤ k) × (k ≤ 3)) }
+        ensures { Makes (λ d n. put d (F q k)) self.now result }
+    {
+        Some(Row::on_one(Kind::F, q, k))
+    }
 }
 
-// The row that a turn puts behind next.
-pub fn next_row(t: &[[u16; 33]; 32], which: Turn, j: usize, q: usize, d: u16, n: usize) -> Row
-    requires dimension { Dimension d × (n ≤ 16) }
-    requires places { (q ≤ j) × (j < n) }
-    requires asks { Asks which d n q j (table_view n t.now) }
-    ensures { Says d n (turn_of which d n q j) (table_view n t.now) (view_row result) }
-{
-    match which {
-        Turn::GatherW(c) => by_s(
-            j,
-            arith::divisor::least_multiplier(w_at(t, c, j), v_at(t, c, j), d).value(),
-            d,
-        ),
-        Turn::Exchange(c) => on_one(1, j, exchange_power(w_at(t, c, j), d)),
-        Turn::Shear(k) => by_s(j, k, d),
-        Turn::Gather => by_a(
-            j,
-            q,
-            arith::divisor::least_multiplier(v_at(t, q, q), v_at(t, q, j), d),
-        ),
-        Turn::Scale => by_m(q, arith::divisor::inverse(v_at(t, q, q), d)),
-        Turn::ClearV => by_a(q, j, v_at(t, q, j).negative(d)),
-        Turn::ClearPartnerW => by_a(j, q, w_at(t, n + q, j).within(d)),
-        Turn::ClearPartnerV => by_a(q, j, v_at(t, n + q, j).within(d)),
-        Turn::ShearPartner => by_s(q, w_at(t, n + q, q).value(), d),
-        Turn::Fourier(k) => on_one(1, q, k),
-        Turn::PhaseZ => on_one(6, q, phase_at(t, q).half(d).negative(d).value()),
-        Turn::PhaseX => on_one(5, q, phase_at(t, n + q).half(d).value()),
+// ---- the phases of columns i and n + i
+impl Columns {
+    // Z, by which the phase of column i becomes 0.
+    pub fn clear_z(&self, i: usize) -> Option<Row>
+        requires { i < self.now.n }
+        ensures { Makes (λ d n. clear_z d n i) self.now result }
+    {
+        let k = self.phase(i).half(self.d).negative(self.d);
+        unless(0, Row::on_one(Kind::Z, i, k.value()))
+    }
+
+    // X, by which the phase of column n + i becomes 0.
+    pub fn clear_x(&self, i: usize) -> Option<Row>
+        requires { i < self.now.n }
+        ensures { Makes (λ d n. clear_x d n i) self.now result }
+    {
+        let k = self.phase(self.n.value() + i).half(self.d);
+        unless(0, Row::on_one(Kind::X, i, k.value()))
     }
 }

@@ -4,14 +4,18 @@ use mathlib.Core.List.{List}
 use mathlib.Core.Bool.{true}
 use Prim.Native.Nat.{ℕ, ◌≤◌}
 use lib.ListN.{length}
-use Rattle.arith.specs.Refusals.{or_else, given_of, list_size_of, room_of}
+use Rattle.arith.specs.Refusals.{or_else, given_of, list_size_of, size_of, room_of}
 use Rattle.arith.proofs.Refusals.{or_else_none, or_else_assoc, Given, given_good, size_good, room_good, row_good}
+use Rattle.pauli.specs.Pauli.{Pauli}
 use Rattle.pauli.specs.Bytes.{decode}
 use Rattle.gates.specs.Written.{list_rows, all_legal_rows}
 use Rattle.tableau.specs.Tableau.{WellFormed, Sound}
 use Rattle.tableau.specs.Bytes.{tableau_bytes, decode_tableau}
+use Rattle.tableau.specs.Range.{tableau_range_of}
 use Rattle.tableau.specs.Calls.{tableau_refusal, image_refusal, compose_refusal, inverse_refusal}
 use Rattle.tableau.specs.Inner.Parts.{sized_of, image_lengths, compose_lengths, inverse_lengths, tests_of, image_tests, compose_tests}
+use Rattle.tableau.proofs.Bytes.{decode_formed}
+use Rattle.tableau.proofs.Tests.{sound_good}
 
 -- a tableau in bytes that is taken: of the right length, in range and sound
 pub record Taken (d n : ℕ) (b : List ℕ) : Type 0 where
@@ -26,6 +30,21 @@ pub record Sized (d n have : ℕ) : Type 0 where
 
 pub sized_good : {d n have : ℕ} → sized_of d n have ≡ 0 → Sized d n have
 sized_good {d} {n} e = let z = or_else_none (given_of d n) _ e in record { given = given_good z.0; size = size_good z.1 }
+
+-- of what `given` answers
+pub given_size : {d n have : ℕ} {both : ℕ × ℕ} → sized_of d n have ≡ 0 → both ≡ (d, n) → have ≡ tableau_bytes both.1
+given_size e v = rw v (sized_good e).size
+
+-- past 3 of another input and 4
+pub lent_good : {want have answer space : ℕ} → or_else (size_of want have) (room_of answer space) ≡ 0 → (have ≡ want) × (answer ≤ space)
+lent_good {want} {have} e = let z = or_else_none (size_of want have) _ e in (size_good z.0, room_good z.1)
+
+-- ---- past 5 of a tableau that was read from bytes, and past 7 and 8
+pub table_formed : {d n : ℕ} {t : List Pauli} (b : List ℕ) → t ≡ decode_tableau n b → tableau_range_of d t ≡ 0 → WellFormed d n t
+table_formed b e r = rw e (decode_formed b (rw e at r))
+
+pub table_sound : {d n : ℕ} {t : List Pauli} (b : List ℕ) → t ≡ decode_tableau n b → tests_of d n t ≡ 0 → WellFormed d n t × Sound d n t
+table_sound {d} {t = t} b e r = let z = or_else_none (tableau_range_of d t) _ r in (table_formed b e z.0, sound_good z.1)
 
 -- ---- each call's refusal is that of its lengths, and past these that of its numbers
 pub image_parts : (d n : ℕ) (t p : List ℕ) (room : ℕ) → image_refusal d n t p room ≡ or_else (image_lengths d n (length t) (length p) room) (image_tests d n (decode_tableau n t) (decode n p))

@@ -27,6 +27,11 @@ column_range {n = n} j pos none = one_range n pos
 column_range zero pos (more c cs) = c
 column_range (suc j) pos (more c cs) = column_range j pos cs
 
+pub column_inside : {d n : ℕ} {t : List Pauli} (j : ℕ) → j < length t → AllInRange d n t → InRange d n (column n t j)
+column_inside j l none = absurd (not-suc-le-zero l)
+column_inside zero l (more c cs) = c
+column_inside (suc j) l (more c cs) = column_inside j (le_of_suc-le-suc l) cs
+
 module _ {d n : ℕ} {f : Pauli → Pauli} (keeps : (p : Pauli) → InRange d n p → InRange d n (f p)) where
   pub map_range : {t : List Pauli} → AllInRange d n t → AllInRange d n (map f t)
   map_range none = none

@@ -19,5 +19,4 @@ pub mod Singles
 pub mod Tests
 pub mod Units
 pub mod Unreduced
-pub mod Shapes
 pub mod Views

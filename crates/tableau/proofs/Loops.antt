@@ -2,8 +2,8 @@
 use mathlib.Core.Path.{◌≡◌, refl, sym, ap, ap₂, ◌∙◌}
 use mathlib.Core.List.{List, ◌∷◌, ◌++◌, map}
 use mathlib.Core.Bool.{Bool, true, false}
-use Prim.Native.Nat.{ℕ, zero, suc, ◌+◌, ◌*◌, ◌-◌, ◌≤◌, ◌<◌}
-use native.Mathlib.Nat.{zero-add, not-suc-le-zero}
+use Prim.Native.Nat.{ℕ, zero, suc, min, ◌+◌, ◌*◌, ◌-◌, ◌≤◌, ◌<◌}
+use native.Mathlib.Nat.{zero-add}
 use native.Mathlib.Numerals.{add-one}
 use native.Mathlib.Omega.{arith}
 use lib.ListN.{length, get_or, take, drop, drop_of_length-le, get_or-append}
@@ -11,10 +11,9 @@ use lib.Seq.{drop-cons, get_or-append-add}
 use Rattle.arith.specs.Bytes.{tab}
 use Rattle.arith.proofs.Bytes.{tab_length, tab_at, tab_ext, tab_list, tab_map}
 use Rattle.arith.specs.Refusals.{or_else, number_of, pairing_of}
-use Rattle.arith.specs.declared.checks.Check.{Check}
-use Rattle.arith.specs.declared.checks.Check.TheVariants.{Good, Refused}
+use Rattle.std.specs.Prelude.{Result, Ok, Err}
 use Rattle.arith.specs.declared.checks.Refusal.{Refusal}
-use Rattle.arith.proofs.Refusals.{good, passes, stop, not_zero}
+use Rattle.arith.proofs.Refusals.{good, stop, not_zero}
 use Rattle.pauli.specs.Pauli.{Pauli, product, power, phase_only, unit}
 use Rattle.pauli.specs.Range.{pauli_range_of}
 use Rattle.tableau.specs.Tableau.{up_from, column, multiplied, image, compose}
@@ -34,14 +33,14 @@ unfolding tableau_range_of
 ranges_end d t j h = rw (drop_of_length-le t h) refl
 
 -- a loop that tests the Paulis of a list one after the other, where those from j on decide: it refuses at j, goes on after j, or has passed all
-pub ranges_refuse : (d n : ℕ) (t : List Pauli) (j : ℕ) {k : Refusal} {r : Check} → j < length t → tableau_range_of d t ≡ tableau_range_of d (drop j t) → number_of r ≡ pauli_range_of d (column n t j) → r ≡ Refused k → number_of r ≡ tableau_range_of d t
+pub ranges_refuse : (d n : ℕ) (t : List Pauli) (j : ℕ) {A : Type 0} {k : Refusal} {r : Result A Refusal} → j < length t → tableau_range_of d t ≡ tableau_range_of d (drop j t) → number_of r ≡ pauli_range_of d (column n t j) → r ≡ Err k → number_of r ≡ tableau_range_of d t
 ranges_refuse d n t j h i e g = rw (i ∙ ranges_step d n t j h) (stop _ _ e g).same
 
-pub ranges_pass_one : (d n : ℕ) (t : List Pauli) (j : ℕ) {r : Check} → j < length t → tableau_range_of d t ≡ tableau_range_of d (drop j t) → number_of r ≡ pauli_range_of d (column n t j) → r ≡ Good → tableau_range_of d t ≡ tableau_range_of d (drop (j + 1) t)
+pub ranges_pass_one : (d n : ℕ) (t : List Pauli) (j : ℕ) {A : Type 0} {a : A} {r : Result A Refusal} → j < length t → tableau_range_of d t ≡ tableau_range_of d (drop j t) → number_of r ≡ pauli_range_of d (column n t j) → r ≡ Ok a → tableau_range_of d t ≡ tableau_range_of d (drop (j + 1) t)
 ranges_pass_one d n t j h i e g = rw (good _ e g) at (i ∙ ranges_step d n t j h)
 
-pub ranges_pass_all : (d : ℕ) (t : List Pauli) (j : ℕ) → length t ≤ j → tableau_range_of d t ≡ tableau_range_of d (drop j t) → number_of Good ≡ tableau_range_of d t
-ranges_pass_all d t j h i = passes _ (i ∙ ranges_end d t j h)
+pub ranges_pass_all : (d : ℕ) (t : List Pauli) (j : ℕ) → length t ≤ j → tableau_range_of d t ≡ tableau_range_of d (drop j t) → 0 ≡ tableau_range_of d t
+ranges_pass_all d t j h i = sym (i ∙ ranges_end d t j h)
 
 -- Pauli j of m in bytes
 pub batch_at : (n : ℕ) (b : List ℕ) (m j : ℕ) → j < m → column n (paulis_at n b m) j ≡ column_at n j b
@@ -50,15 +49,11 @@ batch_at n b m j h = tab_at (λ i. column_at n i b) m j (phase_only n 0) h
 pub batch_length : (n : ℕ) (b : List ℕ) (m : ℕ) → length (paulis_at n b m) ≡ m
 batch_length n b m = tab_length (λ j. column_at n j b) m
 
--- 5 of the first of them, if there is one
-pub first_none : (d n : ℕ) (b : List ℕ) (m : ℕ) → m ≡ 0 → tableau_range_of d (take 1 (paulis_at n b m)) ≡ 0
-unfolding tab tableau_range_of
-first_none d n b m e = rw e refl
-
-pub first_some : (d n : ℕ) (b : List ℕ) (m : ℕ) → 0 < m → tableau_range_of d (take 1 (paulis_at n b m)) ≡ tableau_range_of d (paulis_at n b 1)
+-- the first of them, if there is one
+pub first_of : (n : ℕ) (b : List ℕ) (m : ℕ) → take 1 (paulis_at n b m) ≡ paulis_at n b (min m 1)
 unfolding tab
-first_some d n b zero h = absurd (not-suc-le-zero h)
-first_some d n b (suc m) h = refl
+first_of n b zero = refl
+first_of n b (suc m) = let e : min (suc m) 1 ≡ 1 = omega arith in rw e refl
 
 -- ---- tests of the numbers from k up to m: before the first turn, k passes, k fails, none is left
 pub all_start : (test : ℕ → Bool) (m : ℕ) → all test (up_from 0 m) ≡ all test (up_from 0 (m - 0))
@@ -86,10 +81,13 @@ pub multiplied_end : (d n : ℕ) (x : Pauli) (t : List Pauli) (ks : List ℕ) (j
 multiplied_end d n x t ks j h = rw (drop_of_length-le t h) refl
 
 -- ---- what an answer of the pairing test says of the test
-pub pairing_failed : (holds : Bool) {k : Refusal} {r : Check} → number_of r ≡ pairing_of holds → r ≡ Refused k → holds ≡ false
+pub pairing_failed : (holds : Bool) {A : Type 0} {k : Refusal} {r : Result A Refusal} → number_of r ≡ pairing_of holds → r ≡ Err k → holds ≡ false
 unfolding pairing_of
 pairing_failed true e g = absurd (not_zero e g)
 pairing_failed false e g = refl
+
+-- for the functions that test all columns
+pub ruleset each_test = (all_pass, all_fail, all_end, pairing_failed)
 
 -- ---- the power of column j: v at j, then w at j − n
 pub power_v : (n j : ℕ) (f g : ℕ → ℕ) → j < n → f j ≡ get_or (tab f n ++ tab g n) j 0

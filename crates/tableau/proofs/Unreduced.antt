@@ -4,7 +4,7 @@ use mathlib.Core.List.{List, [], ◌∷◌}
 use Prim.Native.Nat.{ℕ, ◌+◌, ◌*◌, ◌-◌, ◌%◌, ◌≤◌, ◌<◌}
 use native.Mathlib.Nat.{one-mul, zero-mod}
 use native.Mathlib.Omega.{arith}
-use lib.ListN.{length, get_or, set, replicate, length-set}
+use lib.ListN.{length, get_or, set, replicate}
 use lib.Seq.{get_or-set_same, get_or-set_other}
 use Rattle.arith.specs.Bytes.{tab}
 use Rattle.arith.proofs.Bytes.{tab_ext, tab_at}
@@ -12,14 +12,17 @@ use Rattle.arith.proofs.Cases.{by_eq}
 use Rattle.arith.proofs.Cong.{Cong, cong_trans, cong_scale}
 use Rattle.arith.proofs.Ring.{ring₁, ring₂_by, times, quote}
 use Rattle.pauli.specs.Pauli.{InRange, dot, plus, product, phase_only, power}
+use Rattle.pauli.specs.Inner.View.{at}
 use Rattle.pauli.proofs.Sums.{scaled}
 use Rattle.pauli.proofs.Dots.{dot_comm, dot_scaled}
 use Rattle.pauli.proofs.Entries.{tab_zero, plus_tab, scaled_tab}
 use Rattle.pauli.proofs.Group.{power_closed}
-use Rattle.pauli.proofs.Lists.{get_d_zeros, zeros_length, set_next}
+use Rattle.pauli.proofs.Lists.{get_d_zeros, set_next}
 use Rattle.pauli.proofs.Ranges.{pauli_path, v_less, w_less}
 use Rattle.tableau.specs.Inner.View.{column_view}
-use Rattle.tableau.specs.Inner.Sums.{sums_view, Small, Summed, Added}
+use Rattle.tableau.specs.declared.column.Column.{Column}
+use Rattle.tableau.specs.declared.sums.Product.{Product}
+use Rattle.tableau.specs.Inner.Sums.{product_view, Small, Summed, Grown, Added}
 
 -- ---- one power more
 added_entry : (d s k x : ℕ) → 0 < d → Cong d (s % d + k * x % d) (s + k * x)
@@ -44,80 +47,67 @@ added_phase : (d h k m e o t y : ℕ) → 0 < d → Cong d y (k * t) → Cong (2
 added_phase d h k m e o t y pos c = ring₂_by d (h ∷ k ∷ m ∷ e ∷ o ∷ t ∷ y ∷ []) pos
     (times {z = 1} (search quote) (search quote) (search quote) (cong_scale 2 c)) (search quote depth 30) (search quote depth 30) tt
 
--- the phase h and the sums s were there, the phase g and the sums r are: the column c to the power k is multiplied
-pub power_more : (d n k h : ℕ) (c s r : List ℕ) {g : ℕ} → 0 < d → InRange d n (column_view n c)
-    → ((i : ℕ) → i < n → get_or r i 0 ≡ get_or s i 0 + k * get_or c (1 + i) 0)
-    → ((i : ℕ) → i < n → get_or r (16 + i) 0 ≡ get_or s (16 + i) 0 + k * get_or c (17 + i) 0)
-    → g ≡ (h + k * (get_or c 0 0 + (k - 1) * dot (column_view n c).w (column_view n c).v + 2 * dot (tab (λ i. get_or s (16 + i) 0) n) (column_view n c).v)) % (2 * d)
-    → sums_view d n g r ≡ product d (sums_view d n h s) (power d n (column_view n c) k)
-unfolding column_view sums_view
-power_more d n k h c s r pos range v w e =
+-- the product p was there, the product q is: the column c to the power k is multiplied
+pub power_more : (d n k : ℕ) (c : Column) (p q : Product) → 0 < d → InRange d n (column_view n c)
+    → ((i : ℕ) → i < n → get_or q.v i 0 ≡ get_or p.v i 0 + k * at c.v i)
+    → ((i : ℕ) → i < n → get_or q.w i 0 ≡ get_or p.w i 0 + k * at c.w i)
+    → q.phase.0 ≡ (p.phase.0 + k * (c.phase.0 + (k - 1) * dot (column_view n c).w (column_view n c).v + 2 * dot (tab (λ i. get_or p.w i 0) n) (column_view n c).v)) % (2 * d)
+    → product_view d n q ≡ product d (product_view d n p) (power d n (column_view n c) k)
+unfolding column_view product_view
+power_more d n k c p q pos range v w e =
     pauli_path
-    (e ∙ sym (added_phase d h k (k - 1) (get_or c 0 0) _ _ _ pos (reduced_dot d n k (λ i. get_or s (16 + i) 0) (column_view n c).v pos)).same)
-    (added_entries d n k (λ i. get_or s i 0) (λ i. get_or r i 0) (λ i. get_or c (1 + i) 0) pos v)
-    (added_entries d n k (λ i. get_or s (16 + i) 0) (λ i. get_or r (16 + i) 0) (λ i. get_or c (17 + i) 0) pos w)
-    ∙ ap (product d (sums_view d n h s)) (sym (power_closed d n k pos range))
+    (e ∙ sym (added_phase d p.phase.0 k (k - 1) c.phase.0 _ _ _ pos (reduced_dot d n k (λ i. get_or p.w i 0) (column_view n c).v pos)).same)
+    (added_entries d n k (λ i. get_or p.v i 0) (λ i. get_or q.v i 0) (at c.v) pos v)
+    (added_entries d n k (λ i. get_or p.w i 0) (λ i. get_or q.w i 0) (at c.w) pos w)
+    ∙ ap (product d (product_view d n p)) (sym (power_closed d n k pos range))
 
 -- a power 0 changes no sum
-pub power_none : (d n k h : ℕ) (c s : List ℕ) {g : ℕ} → 0 < d → InRange d n (column_view n c) → k ≡ 0 → g ≡ (h + 0) % (2 * d) → sums_view d n g s ≡ product d (sums_view d n h s) (power d n (column_view n c) k)
-power_none d n k h c s pos range z e = rw z (power_more d n 0 h c s s pos range (λ i l. omega arith) (λ i l. omega arith) (e ∙ ap (λ (x : ℕ). x % (2 * d)) (omega arith)))
+pub power_none : (d n k : ℕ) (c : Column) (p q : Product) → 0 < d → InRange d n (column_view n c) → k ≡ 0 → q.v ≡ p.v → q.w ≡ p.w → q.phase.0 ≡ (p.phase.0 + 0) % (2 * d) → product_view d n q ≡ product d (product_view d n p) (power d n (column_view n c) k)
+power_none d n k c p q pos range z v w e =
+    rw z (power_more d n 0 c p q pos range (λ i l. rw v (omega arith)) (λ i l. rw w (omega arith)) (e ∙ ap (λ (x : ℕ). x % (2 * d)) (omega arith)))
 
 -- before the first
-pub none_summed : (d n h : ℕ) → sums_view d n h (replicate 32 0) ≡ phase_only n h
-unfolding sums_view
-none_summed d n h = pauli_path refl (zeros (λ i. i)) (zeros (λ i. 16 + i))
+pub none_summed : (d n : ℕ) (p : Product) → p.v ≡ replicate 16 0 → p.w ≡ replicate 16 0 → product_view d n p ≡ phase_only n p.phase.0
+unfolding product_view
+none_summed d n p v w = pauli_path refl (zeros p.v v) (zeros p.w w)
   where
-    zeros : (at : ℕ → ℕ) → tab (λ i. get_or {A = ℕ} (replicate 32 0) (at i) 0 % d) n ≡ replicate n 0
-    zeros at = tab_zero _ n (λ i. ap (λ (x : ℕ). x % d) (get_d_zeros 32 (at i)) ∙ zero-mod d)
+    zeros : (xs : List ℕ) → xs ≡ replicate 16 0 → tab (λ i. get_or xs i 0 % d) n ≡ replicate n 0
+    zeros xs e = tab_zero _ n (λ i. ap (λ (x : ℕ). x % d) (ap (λ (ys : List ℕ). get_or ys i 0) e ∙ get_d_zeros 16 i) ∙ zero-mod d)
 
 -- ---- how large
-pub column_small : {d n : ℕ} (c : List ℕ) → d ≤ 1024 → InRange d n (column_view n c) → Small n c
+pub column_small : {d n : ℕ} (c : Column) → d ≤ 1024 → InRange d n (column_view n c) → Small n c
 unfolding column_view
-column_small {d} {n} c top r i l = (omega (arith, v_less r i, tab_at (λ j. get_or c (1 + j) 0) n i 0 l), omega (arith, w_less r i, tab_at (λ j. get_or c (17 + j) 0) n i 0 l))
+column_small {d} {n} c top r i l = (omega (arith, v_less r i, tab_at (at c.v) n i 0 l), omega (arith, w_less r i, tab_at (at c.w) n i 0 l))
 
-pub zeros_summed : Summed 0 (replicate 32 0)
-zeros_summed = record { places = zeros_length 32; bounded = λ i. omega (arith, get_d_zeros 32 i) }
+pub zeros_summed : (p : Product) → p.v ≡ replicate 16 0 → p.w ≡ replicate 16 0 → Summed 0 p
+zeros_summed p v w = record { v = λ i. rw v (omega (arith, get_d_zeros 16 i)); w = λ i. rw w (omega (arith, get_d_zeros 16 i)) }
 
-pub summed_within : {m k : ℕ} {s : List ℕ} → m ≤ k → Summed m s → Summed k s
-summed_within l b = record { places = b.places; bounded = λ i. omega (arith, b.bounded i) }
+pub summed_within : {m k : ℕ} {p : Product} → m ≤ k → Summed m p → Summed k p
+summed_within l b = record { v = λ i. omega (arith, b.v i); w = λ i. omega (arith, b.w i) }
 
-pub summed_more : {m k n : ℕ} {c s r : List ℕ} → Added k n c s r → Summed m s → Summed (m + 1) r
-summed_more a b = record { places = a.places; bounded = λ i. omega (arith, a.grown i, b.bounded i) }
+pub summed_more : {m k n : ℕ} {c : Column} {p q : Product} → Added k n c p q → Summed m p → Summed (m + 1) q
+summed_more a b = record { v = λ i. omega (arith, a.v.bounded i, b.v i); w = λ i. omega (arith, a.w.bounded i, b.w i) }
 
--- ---- the loop that adds: those before place i are added, the others are as they were
-pub record Adding (k i : ℕ) (c old new : List ℕ) : Type 0 where
-  pub added : Added k i c old new
-  pub v_left : (j : ℕ) → i ≤ j → j < 16 → get_or new j 0 ≡ get_or old j 0
-  pub w_left : (j : ℕ) → i ≤ j → get_or new (16 + j) 0 ≡ get_or old (16 + j) 0
+-- ---- a loop that adds f 0, f 1, .. to the sums: those before place i are added, the others are as they were
+pub record Growing (f : ℕ → ℕ) (i : ℕ) (old new : List ℕ) : Type 0 where
+  pub grown : Grown f i old new
+  pub left : (j : ℕ) → i ≤ j → get_or new j 0 ≡ get_or old j 0
 
-pub adding_none : {k : ℕ} {c s : List ℕ} → length s ≡ 32 → Adding k 0 c s s
-adding_none e = record {
-  added = record { v_added = λ j l. absurd (omega arith); w_added = λ j l. absurd (omega arith); places = e; grown = λ j. omega arith };
-  v_left = λ j l h. refl;
-  w_left = λ j l. refl;
-}
+pub growing_none : (f : ℕ → ℕ) (s : List ℕ) → Growing f 0 s s
+growing_none f s = record { grown = record { added = λ j l. absurd (omega arith); bounded = λ j. omega arith }; left = λ j l. refl }
 
-grown_set : (old new : List ℕ) (i x : ℕ) → i < length new → x ≤ get_or old i 0 + 67042305 → ((j : ℕ) → get_or new j 0 ≤ get_or old j 0 + 67042305) → (j : ℕ) → get_or (set new i x) j 0 ≤ get_or old j 0 + 67042305
-grown_set old new i x l h g j = by_eq j i (λ e. rw (e, get_or-set_same new i x 0 l) h) (λ ne. rw (get_or-set_other new i j x 0 ne) (g j))
+-- so before the first entry the sums are as they were
+pub adding_none : (k : ℕ) (c : Column) (p : Product) → Added k 0 c p p
+adding_none k c p = record { phase = refl; v = (growing_none (λ i. k * at c.v i) p.v).grown; w = (growing_none (λ i. k * at c.w i) p.w).grown }
 
-pub adding_more : {k : ℕ} {c old new : List ℕ} (i : ℕ) {x z a b : ℕ} → i < 16
-    → x ≡ get_or new i 0 + a → a ≡ k * get_or c (1 + i) 0 → a ≤ 67042305
-    → z ≡ get_or (set new i x) (16 + i) 0 + b → b ≡ k * get_or c (17 + i) 0 → b ≤ 67042305
-    → Adding k i c old new → Adding k (i + 1) c old (set (set new i x) (16 + i) z)
-adding_more {k} {c} {old} {new} i {x} {z} {a} {b} l ex ea la ez eb lb h =
-    let mid = set new i x in
-    let one : length mid ≡ 32 = length-set new i x ∙ h.added.places in
-    let of_v = h.v_left i (omega arith) l in
-    let of_w = get_or-set_other new i (16 + i) x 0 (λ (q : 16 + i ≡ i). omega arith) ∙ h.w_left i (omega arith) in
-    let vx : x ≡ get_or old i 0 + k * get_or c (1 + i) 0 = omega arith in
-    let wz : z ≡ get_or old (16 + i) 0 + k * get_or c (17 + i) 0 = omega arith in
+pub growing_more : {f : ℕ → ℕ} {old new : List ℕ} (i : ℕ) {a : ℕ} → i < length new → a ≡ f i → a ≤ 67042305 → Growing f i old new → Growing f (i + 1) old (set new i (get_or new i 0 + a))
+growing_more {f} {old} {new} i {a} h e l g =
+    let x = get_or new i 0 + a in
+    let sum : x ≡ get_or old i 0 + f i = omega (arith, g.left i (omega arith)) in
     record {
-      added = record {
-        v_added = λ j m. get_or-set_other mid (16 + i) j z 0 (λ (q : j ≡ 16 + i). omega arith) ∙ set_next (λ j. get_or old j 0 + k * get_or c (1 + j) 0) (λ j. j) new i x (λ j m (q : j ≡ i). omega arith) (omega (arith, h.added.places)) vx h.added.v_added j m;
-        w_added = set_next (λ j. get_or old (16 + j) 0 + k * get_or c (17 + j) 0) (λ j. 16 + j) mid i z (λ j m (q : 16 + j ≡ 16 + i). omega arith) (omega (arith, one)) wz (λ j m. get_or-set_other new i (16 + j) x 0 (λ (q : 16 + j ≡ i). omega arith) ∙ h.added.w_added j m);
-        places = length-set mid (16 + i) z ∙ one;
-        grown = grown_set old mid (16 + i) z (omega (arith, one)) (omega arith) (grown_set old new i x (omega (arith, h.added.places)) (omega arith) h.added.grown);
+      grown = record {
+        added = set_next (λ j. get_or old j 0 + f j) (λ j. j) new i x (λ j m (q : j ≡ i). omega arith) h sum g.grown.added;
+        bounded = λ j. by_eq j i (λ q. rw (q, get_or-set_same new i x 0 h) (omega (arith, g.left i (omega arith)))) (λ ne. rw (get_or-set_other new i j x 0 ne) (g.grown.bounded j));
       };
-      v_left = λ j m s. get_or-set_other mid (16 + i) j z 0 (λ (q : j ≡ 16 + i). omega arith) ∙ get_or-set_other new i j x 0 (λ (q : j ≡ i). omega arith) ∙ h.v_left j (omega arith) s;
-      w_left = λ j m. get_or-set_other mid (16 + i) (16 + j) z 0 (λ (q : 16 + j ≡ 16 + i). omega arith) ∙ get_or-set_other new i (16 + j) x 0 (λ (q : 16 + j ≡ i). omega arith) ∙ h.w_left j (omega arith);
+      left = λ j m. get_or-set_other new i j x 0 (λ (q : j ≡ i). omega arith) ∙ g.left j (omega arith);
     }

@@ -1,77 +1,79 @@
 -- Laws of the table: reading a number, storing in a column, and loops that change column after column. Assumes nothing.
 use mathlib.Core.Path.{◌≡◌, refl, sym, ◌∙◌, ap, subst}
-use mathlib.Core.List.{List, [], map}
+use mathlib.Core.List.{List, [], ◌∷◌, map}
 use mathlib.Core.Logic.{◌≢◌}
-use Prim.Native.Nat.{ℕ, ◌+◌, ◌*◌, ◌≤◌, ◌<◌}
+use Prim.Native.Nat.{ℕ, zero, suc, ◌+◌, ◌*◌, ◌≤◌, ◌<◌}
 use native.Mathlib.Omega.{arith}
-use lib.ListN.{length, get_or, set, replicate, length-set, length-append, length-replicate, get_or-replicate}
-use lib.Seq.{get_or-set_same, get_or-set_other, ext_get_or}
+use lib.ListN.{length, get_or, set, replicate, length-set, length-append, length-map, get_or-eq_default}
+use lib.Seq.{get_or-set_same, get_or-set_other, ext_get_or, map-set}
+use Rattle.std.proofs.lemmas.List.{get_or-map}
 use Rattle.arith.specs.Bytes.{tab}
+use Rattle.arith.specs.declared.residue.Phase.{Phase}
+use Rattle.arith.specs.declared.residue.Residue.{Residue}
 use Rattle.arith.proofs.Bytes.{tab_at, tab_ext, tab_map, tab_length}
-use Rattle.arith.proofs.Cases.{by_eq}
+use Rattle.arith.proofs.Cases.{by_eq, by_less}
 use Rattle.pauli.specs.Pauli.{Pauli, phase_only}
 use Rattle.pauli.specs.Bytes.{numbers_of}
-use Rattle.pauli.specs.Inner.Touched.{Touched, touched, replaced, Has}
+use Rattle.pauli.specs.Inner.View.{at, entries}
+use Rattle.pauli.specs.Inner.Touched.{view_touched, touched, replaced, Has}
+use Rattle.pauli.specs.declared.touched.Touched.{Touched as Code}
+use Rattle.pauli.proofs.Entries.{entry, entries_set, entries_zeros}
+use Rattle.pauli.proofs.Lists.{zeros_length}
 use Rattle.pauli.proofs.Ranges.{pauli_path}
-use Rattle.pauli.proofs.Entries.{tab_zero}
-use Rattle.pauli.proofs.Lists.{get_d_zeros, zeros_length, set_next}
 use Rattle.tableau.specs.Tableau.{column}
-use Rattle.tableau.specs.Inner.View.{column_view, table_view, Shaped}
+use Rattle.tableau.specs.declared.column.Column.{Column}
+use Rattle.tableau.specs.declared.column.Table.{Table}
+use Rattle.tableau.specs.Inner.View.{column_view, table_view}
 
 -- ---- the numbers of a column, as the view has them
-module _ (n : ℕ) (t : List (List ℕ)) where
-  pub view_column : (c : ℕ) → c < 2 * n → column n (table_view n t) c ≡ column_view n (get_or t c [])
+module _ (n : ℕ) (t : Table) (c : ℕ) (e : Column) (h : c < 2 * n) (l : c < 32) where
+  pub view_column : column n (table_view n t) c ≡ column_view n (get_or t.columns c e)
   unfolding table_view
-  view_column c h = tab_at (λ j. column_view n (get_or t j [])) (2 * n) c (phase_only n 0) h
+  view_column = tab_at (column n (map (column_view n) t.columns)) (2 * n) c (phase_only n 0) h ∙ get_or-map (column_view n) t.columns c e (phase_only n 0) (omega (arith, t.size))
 
-  pub view_v : (c i : ℕ) → c < 2 * n → i < n → get_or (column n (table_view n t) c).v i 0 ≡ get_or (get_or t c []) (1 + i) 0
+  pub view_v : (i : ℕ) → i < n → get_or (column n (table_view n t) c).v i 0 ≡ at (get_or t.columns c e).v i
   unfolding column_view
-  view_v c i h l = ap (λ (p : Pauli). get_or p.v i 0) (view_column c h) ∙ tab_at (λ j. get_or (get_or t c []) (1 + j) 0) n i 0 l
+  view_v i m = ap (λ (p : Pauli). get_or p.v i 0) view_column ∙ entry (get_or t.columns c e).v m
 
-  pub view_w : (c i : ℕ) → c < 2 * n → i < n → get_or (column n (table_view n t) c).w i 0 ≡ get_or (get_or t c []) (17 + i) 0
+  pub view_w : (i : ℕ) → i < n → get_or (column n (table_view n t) c).w i 0 ≡ at (get_or t.columns c e).w i
   unfolding column_view
-  view_w c i h l = ap (λ (p : Pauli). get_or p.w i 0) (view_column c h) ∙ tab_at (λ j. get_or (get_or t c []) (17 + j) 0) n i 0 l
+  view_w i m = ap (λ (p : Pauli). get_or p.w i 0) view_column ∙ entry (get_or t.columns c e).w m
 
-  pub view_phase : (c : ℕ) → c < 2 * n → (column n (table_view n t) c).phase ≡ get_or (get_or t c []) 0 0
+  pub view_phase : (column n (table_view n t) c).phase ≡ (get_or t.columns c e).phase.0
   unfolding column_view
-  view_phase c h = ap (λ (p : Pauli). p.phase) (view_column c h)
+  view_phase = ap (λ (p : Pauli). p.phase) view_column
 
 -- how many columns the view has
-pub table_length : (n : ℕ) (t : List (List ℕ)) → length (table_view n t) ≡ 2 * n
+pub table_length : (n : ℕ) (t : Table) → length (table_view n t) ≡ 2 * n
 unfolding table_view
-table_length n t = tab_length (λ j. column_view n (get_or t j [])) (2 * n)
-
--- every column changed in the same way
-pub view_map : (n : ℕ) (t t' : List (List ℕ)) (f : Pauli → Pauli) → ((c : ℕ) → c < 2 * n → column_view n (get_or t' c []) ≡ f (column_view n (get_or t c []))) → table_view n t' ≡ map f (table_view n t)
-unfolding table_view
-view_map n t t' f h = tab_ext (λ j. column_view n (get_or t' j [])) (λ j. f (column_view n (get_or t j []))) (2 * n) h ∙ sym (tab_map f (λ j. column_view n (get_or t j [])) (2 * n))
+table_length n t = tab_length (column n (map (column_view n) t.columns)) (2 * n)
 
 -- the columns one by one, by their numbers
-pub view_table : (n : ℕ) (t : List (List ℕ)) (f : ℕ → Pauli) → ((c : ℕ) → c < 2 * n → column_view n (get_or t c []) ≡ f c) → table_view n t ≡ tab f (2 * n)
+pub view_table : (n : ℕ) (t : Table) (f : ℕ → Pauli) → ((c : ℕ) → c < 2 * n → column n (table_view n t) c ≡ f c) → table_view n t ≡ tab f (2 * n)
 unfolding table_view
-view_table n t f h = tab_ext (λ j. column_view n (get_or t j [])) f (2 * n) h
+view_table n t f h = tab_ext (column n (map (column_view n) t.columns)) f (2 * n) (λ c l. sym (tab_at (column n (map (column_view n) t.columns)) (2 * n) c (phase_only n 0) l) ∙ h c l)
+
+-- every column changed in the same way
+pub view_map : (n : ℕ) (t t' : Table) (f : Pauli → Pauli) → ((c : ℕ) → c < 2 * n → column n (table_view n t') c ≡ f (column n (table_view n t) c)) → table_view n t' ≡ map f (table_view n t)
+view_map n t t' f h = view_table n t' (λ c. f (column n (table_view n t) c)) h ∙ sym (ap (map f) (view_table n t (column n (table_view n t)) (λ c l. refl)) ∙ tab_map f (column n (table_view n t)) (2 * n))
 
 -- how many numbers a column has
-pub view_length : (n : ℕ) (c : List ℕ) → length (numbers_of (column_view n c)) ≡ 1 + 2 * n
+pub view_length : (n : ℕ) (c : Column) → length (numbers_of (column_view n c)) ≡ 1 + 2 * n
 unfolding column_view
-view_length n c = omega (arith, length-append (tab (λ i. get_or c (1 + i) 0) n) (tab (λ i. get_or c (17 + i) 0) n), tab_length (λ i. get_or c (1 + i) 0) n, tab_length (λ i. get_or c (17 + i) 0) n)
+view_length n c = omega (arith, length-append (entries n c.v) (entries n c.w), tab_length (at c.v) n, tab_length (at c.w) n)
+
+columns_length : (n : ℕ) (cs : List Column) (k : ℕ) → length (numbers_of (column n (map (column_view n) cs) k)) ≡ 1 + 2 * n
+columns_length n [] k = omega (arith, length-append {A = ℕ} (replicate n 0) (replicate n 0), zeros_length n)
+columns_length n (c ∷ cs) zero = view_length n c
+columns_length n (c ∷ cs) (suc k) = columns_length n cs k
+
+pub column_length : (n : ℕ) (t : Table) (k : ℕ) → length (numbers_of (column n (table_view n t) k)) ≡ 1 + 2 * n
+unfolding table_view
+column_length n t k = by_less k (2 * n)
+    (λ l. ap (λ (p : Pauli). length (numbers_of p)) (tab_at (column n (map (column_view n) t.columns)) (2 * n) k (phase_only n 0) l) ∙ columns_length n t.columns k)
+    (λ g. ap (λ (p : Pauli). length (numbers_of p)) (get_or-eq_default (table_view n t) (phase_only n 0) (omega (arith, table_length n t))) ∙ columns_length n [] 0)
 
 -- ---- a store in a column
--- in the n places from k on, and elsewhere
-set_inside : (n k i x : ℕ) (c : List ℕ) → k + i < length c → tab (λ m. get_or (set c (k + i) x) (k + m) 0) n ≡ set (tab (λ m. get_or c (k + m) 0) n) i x
-set_inside n k i x c h = ext_get_or 0 (tab (λ m. get_or (set c (k + i) x) (k + m) 0) n) (set (tab (λ m. get_or c (k + m) 0) n) i x) (tab_length (λ m. get_or (set c (k + i) x) (k + m) 0) n ∙ sym (length-set (tab (λ m. get_or c (k + m) 0) n) i x ∙ tab_length (λ m. get_or c (k + m) 0) n)) at_each
-  where
-    inside : {j : ℕ} → j < length (tab (λ m. get_or (set c (k + i) x) (k + m) 0) n) → j < n
-    inside l = omega (arith, tab_length (λ m. get_or (set c (k + i) x) (k + m) 0) n)
-
-    at_each : (j : ℕ) → j < length (tab (λ m. get_or (set c (k + i) x) (k + m) 0) n) → get_or (tab (λ m. get_or (set c (k + i) x) (k + m) 0) n) j 0 ≡ get_or (set (tab (λ m. get_or c (k + m) 0) n) i x) j 0
-    at_each j l = tab_at (λ m. get_or (set c (k + i) x) (k + m) 0) n j 0 (inside l) ∙ by_eq j i
-        (λ e. rw e (get_or-set_same c (k + i) x 0 h ∙ sym (get_or-set_same (tab (λ m. get_or c (k + m) 0) n) i x 0 (omega (arith, inside l, tab_length (λ m. get_or c (k + m) 0) n)))))
-        (λ ne. get_or-set_other c (k + i) (k + j) x 0 (λ (q : k + j ≡ k + i). ne (omega arith)) ∙ sym (tab_at (λ m. get_or c (k + m) 0) n j 0 (inside l)) ∙ sym (get_or-set_other (tab (λ m. get_or c (k + m) 0) n) i j x 0 ne))
-
-set_outside : (n k a x : ℕ) (c : List ℕ) → ((m : ℕ) → m < n → k + m ≢ a) → tab (λ m. get_or (set c a x) (k + m) 0) n ≡ tab (λ m. get_or c (k + m) 0) n
-set_outside n k a x c h = tab_ext _ _ n (λ m l. get_or-set_other c a (k + m) x 0 (h m l))
-
 -- a Pauli with another phase, or with one entry set
 abbrev pub with_phase : ℕ → Pauli → Pauli
 with_phase h p = record { phase = h; v = p.v; w = p.w }
@@ -82,113 +84,92 @@ with_v i x p = record { phase = p.phase; v = set p.v i x; w = p.w }
 abbrev pub with_w : ℕ → ℕ → Pauli → Pauli
 with_w i x p = record { phase = p.phase; v = p.v; w = set p.w i x }
 
-module _ (n : ℕ) (c : List ℕ) (small : n ≤ 16) (size : length c ≡ 33) where
-  pub store_phase : (h : ℕ) → column_view n (set c 0 h) ≡ with_phase h (column_view n c)
+module _ (n : ℕ) (c : Column) where
+  pub store_phase : (h : Phase) → column_view n (record { phase = h; v = c.v; w = c.w; places = c.places }) ≡ with_phase h.0 (column_view n c)
   unfolding column_view
-  store_phase h = pauli_path (get_or-set_same c 0 h 0 (omega arith)) (set_outside n 1 0 h c (λ m l e. omega arith)) (set_outside n 17 0 h c (λ m l e. omega arith))
+  store_phase h = refl
 
-  pub store_v : (i x : ℕ) → i < n → column_view n (set c (1 + i) x) ≡ with_v i x (column_view n c)
+  pub store_v : (i : ℕ) (x : Residue) (places : (length (set c.v i x) ≡ 16) × (length c.w ≡ 16)) → i < 16 → column_view n (record { phase = c.phase; v = set c.v i x; w = c.w; places = places }) ≡ with_v i x.0 (column_view n c)
   unfolding column_view
-  store_v i x l = pauli_path (get_or-set_other c (1 + i) 0 x 0 (λ (e : 0 ≡ 1 + i). omega arith)) (set_inside n 1 i x c (omega arith)) (set_outside n 17 (1 + i) x c (λ m h e. omega arith))
+  store_v i x places l = pauli_path refl (entries_set n c.v i x (omega (arith, c.places))) refl
 
-  pub store_w : (i x : ℕ) → i < n → column_view n (set c (17 + i) x) ≡ with_w i x (column_view n c)
+  pub store_w : (i : ℕ) (x : Residue) (places : (length c.v ≡ 16) × (length (set c.w i x) ≡ 16)) → i < 16 → column_view n (record { phase = c.phase; v = c.v; w = set c.w i x; places = places }) ≡ with_w i x.0 (column_view n c)
   unfolding column_view
-  store_w i x l = pauli_path (get_or-set_other c (17 + i) 0 x 0 (λ (e : 0 ≡ 17 + i). omega arith)) (set_outside n 1 (17 + i) x c (λ m h e. omega arith)) (set_inside n 17 i x c (omega arith))
+  store_w i x places l = pauli_path refl refl (entries_set n c.w i x (omega (arith, c.places)))
 
 -- ---- the numbers that a row touches, in a column
-module _ (n : ℕ) (c : List ℕ) {i j : ℕ} (li : i < n) (lj : j < n) where
-  pub column_touched : touched i j (column_view n c) ≡ record { phase = get_or c 0 0; vi = get_or c (1 + i) 0; wi = get_or c (17 + i) 0; vj = get_or c (1 + j) 0; wj = get_or c (17 + j) 0 }
-  unfolding column_view
-  column_touched k = record {
-    phase = get_or c 0 0;
-    vi = tab_at (λ m. get_or c (1 + m) 0) n i 0 li k;
-    wi = tab_at (λ m. get_or c (17 + m) 0) n i 0 li k;
-    vj = tab_at (λ m. get_or c (1 + m) 0) n j 0 lj k;
-    wj = tab_at (λ m. get_or c (17 + m) 0) n j 0 lj k;
-  }
-
-pub column_has : (n : ℕ) (c : List ℕ) {i : ℕ} → i < n → Has i (column_view n c)
+pub column_touched : (n : ℕ) (c : Column) {i j : ℕ} → i < n → j < n → touched i j (column_view n c) ≡ record { phase = c.phase.0; vi = at c.v i; wi = at c.w i; vj = at c.v j; wj = at c.w j }
 unfolding column_view
-column_has n c l = record { in_v = omega (arith, tab_length (λ m. get_or c (1 + m) 0) n); in_w = omega (arith, tab_length (λ m. get_or c (17 + m) 0) n) }
+column_touched n c {i} {j} li lj k = record { phase = c.phase.0; vi = entry c.v li k; wi = entry c.w li k; vj = entry c.v lj k; wj = entry c.w lj k }
+
+pub column_has : (n : ℕ) (c : Column) {i : ℕ} → i < n → Has i (column_view n c)
+unfolding column_view
+column_has n c l = record { in_v = omega (arith, tab_length (at c.v) n); in_w = omega (arith, tab_length (at c.w) n) }
 
 -- the five stored, one after the other
-module _ (n : ℕ) (c : List ℕ) (t : Touched) (i j : ℕ) where
-  abbrev pub stored : List ℕ
-  stored = set (set (set (set (set c 0 t.phase) (1 + i) t.vi) (17 + i) t.wi) (1 + j) t.vj) (17 + j) t.wj
-
-  pub stored_length : length stored ≡ length c
-  stored_length = simp length-set
-
-  pub column_replaced : n ≤ 16 → length c ≡ 33 → i < n → j < n → column_view n stored ≡ replaced i j t (column_view n c)
-  column_replaced small size li lj =
-      let c1 = set c 0 t.phase in
-      let e1 : length c1 ≡ 33 = length-set c 0 t.phase ∙ size in
-      let c2 = set c1 (1 + i) t.vi in
-      let e2 : length c2 ≡ 33 = length-set c1 (1 + i) t.vi ∙ e1 in
-      let c3 = set c2 (17 + i) t.wi in
-      let e3 : length c3 ≡ 33 = length-set c2 (17 + i) t.wi ∙ e2 in
-      let c4 = set c3 (1 + j) t.vj in
-      let e4 : length c4 ≡ 33 = length-set c3 (1 + j) t.vj ∙ e3 in
-      store_w n c4 small e4 j t.wj lj
-      ∙ ap (with_w j t.wj) (store_v n c3 small e3 j t.vj lj
-      ∙ ap (with_v j t.vj) (store_w n c2 small e2 i t.wi li
-      ∙ ap (with_w i t.wi) (store_v n c1 small e1 i t.vi li
-      ∙ ap (with_v i t.vi) (store_phase n c small size t.phase))))
+pub column_replaced : (n : ℕ) (c : Column) (t : Code) (i j : ℕ) (places : (length (set (set c.v i t.vi) j t.vj) ≡ 16) × (length (set (set c.w i t.wi) j t.wj) ≡ 16)) → i < 16 → j < 16
+    → column_view n (record { phase = t.phase; v = set (set c.v i t.vi) j t.vj; w = set (set c.w i t.wi) j t.wj; places = places }) ≡ replaced i j (view_touched t) (column_view n c)
+unfolding column_view
+column_replaced n c t i j places li lj = pauli_path refl (twice c.v t.vi t.vj c.places.0) (twice c.w t.wi t.wj c.places.1)
+  where
+    twice : (xs : List Residue) (x y : Residue) → length xs ≡ 16 → entries n (set (set xs i x) j y) ≡ set (set (entries n xs) i x.0) j y.0
+    twice xs x y e = entries_set n (set xs i x) j y (omega (arith, length-set xs i x, e)) ∙ ap (λ (ys : List ℕ). set ys j y.0) (entries_set n xs i x (omega (arith, e)))
 
 -- ---- a fresh table: zeros
-pub fresh_shaped : Shaped (replicate 32 (replicate 33 0))
-fresh_shaped = record { columns = length-replicate {A = List ℕ} 32 (replicate 33 0); places = λ k l. ap length (get_or-replicate {A = List ℕ} 32 k (replicate 33 0) [] l) ∙ zeros_length 33 }
+zeros_view : (n m : ℕ) (z : Column) → column_view n z ≡ phase_only n 0 → (k : ℕ) → column n (map (column_view n) (replicate m z)) k ≡ phase_only n 0
+zeros_view n zero z e k = refl
+zeros_view n (suc m) z e zero = e
+zeros_view n (suc m) z e (suc k) = zeros_view n m z e k
 
-pub fresh_column : (n k : ℕ) → k < 32 → column_view n (get_or (replicate 32 (replicate 33 0)) k []) ≡ phase_only n 0
-unfolding column_view
-fresh_column n k l =
-    ap (column_view n) (get_or-replicate {A = List ℕ} 32 k (replicate 33 0) [] l)
-    ∙ pauli_path (get_d_zeros 33 0) (tab_zero (λ i. get_or (replicate 33 0) (1 + i) 0) n (λ i. get_d_zeros 33 (1 + i))) (tab_zero (λ i. get_or (replicate 33 0) (17 + i) 0) n (λ i. get_d_zeros 33 (17 + i)))
+pub fresh_column : (n : ℕ) (t : Table) (z : Column) → t.columns ≡ replicate 32 z → z.phase.0 ≡ 0 → z.v ≡ replicate 16 (record { 0 = 0 }) → z.w ≡ replicate 16 (record { 0 = 0 }) → (k : ℕ) → k < 2 * n → column n (table_view n t) k ≡ phase_only n 0
+unfolding table_view column_view
+fresh_column n t z e h v w k l =
+    let zeros = λ (xs : List Residue) (q : xs ≡ replicate 16 (record { 0 = 0 })). ap (entries n) q ∙ entries_zeros 16 n in
+    tab_at (column n (map (column_view n) t.columns)) (2 * n) k (phase_only n 0) l ∙ ap (λ (cs : List Column). column n (map (column_view n) cs) k) e ∙ zeros_view n 32 z (pauli_path h (zeros z.v v) (zeros z.w w)) k
+
+-- ---- a column stored
+tab_set : {A : Type 0} (xs : List A) (z : A) (n j : ℕ) (x : A) → j < length xs → tab (λ k. get_or (set xs j x) k z) n ≡ set (tab (λ k. get_or xs k z) n) j x
+tab_set {A} xs z n j x h = ext_get_or z (tab (λ k. get_or (set xs j x) k z) n) (set old j x) (tab_length (λ k. get_or (set xs j x) k z) n ∙ sym (length-set old j x ∙ tab_length (λ k. get_or xs k z) n)) at_each
+  where
+    old : List A
+    old = tab (λ k. get_or xs k z) n
+
+    at_each : (k : ℕ) → k < length (tab (λ k. get_or (set xs j x) k z) n) → get_or (tab (λ k. get_or (set xs j x) k z) n) k z ≡ get_or (set old j x) k z
+    at_each k l =
+        let inside : k < n = omega (arith, tab_length (λ k. get_or (set xs j x) k z) n) in
+        tab_at (λ k. get_or (set xs j x) k z) n k z inside ∙ by_eq k j
+        (λ e. rw e (get_or-set_same xs j x z h ∙ sym (get_or-set_same old j x z (omega (arith, inside, tab_length (λ k. get_or xs k z) n)))))
+        (λ ne. get_or-set_other xs j k x z ne ∙ sym (tab_at (λ k. get_or xs k z) n k z inside) ∙ sym (get_or-set_other old j k x z ne))
+
+pub view_set : (n : ℕ) (t : Table) (j : ℕ) (c : Column) (size : length (set t.columns j c) ≡ 32) → j < 32 → table_view n (record { columns = set t.columns j c; size = size }) ≡ set (table_view n t) j (column_view n c)
+unfolding table_view
+view_set n t j c size h =
+    let all = map (column_view n) t.columns in
+    let e : length all ≡ 32 = length-map t.columns (column_view n) ∙ t.size in
+    ap (λ (ps : List Pauli). tab (column n ps) (2 * n)) (map-set (column_view n) t.columns j c) ∙ tab_set all (phase_only n 0) (2 * n) j (column_view n c) (omega (arith, e))
 
 -- ---- a loop that changes the columns of a table one after the other: P holds of those before j, the others are as they were
-pub record Changed (P : ℕ → List ℕ → Type 0) (j : ℕ) (old new : List (List ℕ)) : Type 0 where
-  pub shaped : Shaped new
-  pub done : (k : ℕ) → k < j → P k (get_or new k [])
-  pub left : (k : ℕ) → j ≤ k → get_or new k [] ≡ get_or old k []
+pub record Changed (n : ℕ) (P : ℕ → Pauli → Type 0) (j : ℕ) (old new : Table) : Type 0 where
+  pub done : (k : ℕ) → k < j → P k (column n (table_view n new) k)
+  pub left : (k : ℕ) → j ≤ k → column n (table_view n new) k ≡ column n (table_view n old) k
 
-pub changed_none : (P : ℕ → List ℕ → Type 0) (t : List (List ℕ)) → Shaped t → Changed P 0 t t
-changed_none P t e = record { shaped = e; done = λ k l. absurd (omega arith); left = λ k l. refl }
+pub changed_none : (n : ℕ) (P : ℕ → Pauli → Type 0) (t : Table) → Changed n P 0 t t
+changed_none n P t = record { done = λ k l. absurd (omega arith); left = λ k l. refl }
 
-pub changed_more : (P : ℕ → List ℕ → Type 0) (j : ℕ) {old new : List (List ℕ)} {c : List ℕ} → j < 32 → P j c → length c ≡ 33 → Changed P j old new → Changed P (j + 1) old (set new j c)
-changed_more P j {old} {new} {c} h p e a = record {
-  shaped = record {
-    columns = length-set new j c ∙ a.shaped.columns;
-    places = λ k l. by_eq k j
-        (λ q. rw q (ap length (get_or-set_same new j c [] (omega (arith, a.shaped.columns))) ∙ e))
-        (λ ne. ap length (get_or-set_other new j k c [] ne) ∙ a.shaped.places k l);
-  };
-  done = λ k l. by_eq k j
-      (λ e. subst (λ (y : ℕ). P y (get_or (set new j c) y [])) (sym e) (subst (P j) (sym (get_or-set_same new j c [] (omega (arith, a.shaped.columns)))) p))
-      (λ ne. subst (P k) (sym (get_or-set_other new j k c [] ne)) (a.done k (omega arith)));
-  left = λ k l. get_or-set_other new j k c [] (λ e. omega arith) ∙ a.left k (omega arith);
+pub changed_more : (n : ℕ) (P : ℕ → Pauli → Type 0) (j : ℕ) {old : Table} (t : Table) (c : Column) (size : length (set t.columns j c) ≡ 32) → j < 2 * n → j < 32 → P j (column_view n c)
+    → Changed n P j old t → Changed n P (j + 1) old (record { columns = set t.columns j c; size = size })
+changed_more n P j t c size h l p a = record {
+  done = λ k m. by_eq k j
+      (λ e. subst (λ (y : ℕ). P y (column n new y)) (sym e) (subst (P j) (sym same) p))
+      (λ ne. subst (P k) (sym (other k ne)) (a.done k (omega arith)));
+  left = λ k m. other k (λ e. omega arith) ∙ a.left k (omega arith);
 }
+  where
+    new : List Pauli
+    new = table_view n (record { columns = set t.columns j c; size = size })
 
--- ---- a loop that sets v and w of a column, place after place
-pub record Filled (h : ℕ) (f g : ℕ → ℕ) (i : ℕ) (c : List ℕ) : Type 0 where
-  pub size : length c ≡ 33
-  pub phase : get_or c 0 0 ≡ h
-  pub v : (j : ℕ) → j < i → get_or c (1 + j) 0 ≡ f j
-  pub w : (j : ℕ) → j < i → get_or c (17 + j) 0 ≡ g j
+    same : column n new j ≡ column_view n c
+    same = ap (λ (ps : List Pauli). column n ps j) (view_set n t j c size l) ∙ get_or-set_same (table_view n t) j (column_view n c) (phase_only n 0) (omega (arith, table_length n t))
 
-pub filled_none : (h : ℕ) (f g : ℕ → ℕ) (c : List ℕ) → length c ≡ 33 → Filled h f g 0 (set c 0 h)
-filled_none h f g c e = record { size = length-set c 0 h ∙ e; phase = get_or-set_same c 0 h 0 (omega arith); v = λ j l. absurd (omega arith); w = λ j l. absurd (omega arith) }
-
-pub filled_more : {h : ℕ} {f g : ℕ → ℕ} {c : List ℕ} (i x z : ℕ) → i < 16 → x ≡ f i → z ≡ g i → Filled h f g i c → Filled h f g (i + 1) (set (set c (1 + i) x) (17 + i) z)
-filled_more {h} {f} {g} {c} i x z l e q a =
-    let b = set c (1 + i) x in
-    let m : length b ≡ 33 = length-set c (1 + i) x ∙ a.size in
-    record {
-      size = length-set b (17 + i) z ∙ m;
-      phase = get_or-set_other b (17 + i) 0 z 0 (λ (r : 0 ≡ 17 + i). omega arith) ∙ get_or-set_other c (1 + i) 0 x 0 (λ (r : 0 ≡ 1 + i). omega arith) ∙ a.phase;
-      v = λ j k. get_or-set_other b (17 + i) (1 + j) z 0 (λ (r : 1 + j ≡ 17 + i). omega arith) ∙ set_next f (λ m. 1 + m) c i x (λ m l (r : 1 + m ≡ 1 + i). omega arith) (omega (arith, a.size)) e a.v j k;
-      w = set_next g (λ m. 17 + m) b i z (λ k l (r : 17 + k ≡ 17 + i). omega arith) (omega (arith, m)) q (λ j k. get_or-set_other c (1 + i) (17 + j) x 0 (λ (r : 17 + j ≡ 1 + i). omega arith) ∙ a.w j k);
-    }
-
-pub filled_all : (n : ℕ) {h : ℕ} {f g : ℕ → ℕ} {c : List ℕ} → Filled h f g n c → column_view n c ≡ record { phase = h; v = tab f n; w = tab g n }
-unfolding column_view
-filled_all n {f = f} {g = g} {c = c} a = pauli_path a.phase (tab_ext (λ i. get_or c (1 + i) 0) f n a.v) (tab_ext (λ i. get_or c (17 + i) 0) g n a.w)
+    other : (k : ℕ) → k ≢ j → column n new k ≡ column n (table_view n t) k
+    other k ne = ap (λ (ps : List Pauli). column n ps k) (view_set n t j c size l) ∙ get_or-set_other (table_view n t) j k (column_view n c) (phase_only n 0) ne

@@ -6,6 +6,7 @@
 pub mod batch;
 pub mod calls;
 pub mod checks;
+pub mod column;
 pub mod maps;
 pub mod output;
 pub mod sums;

@@ -1,6 +1,7 @@
 -- What a caller makes of the reader's answer and buffer. Assumes nothing.
 use mathlib.Core.Path.{◌≡◌, refl, sym, ap, ap₂, ◌∙◌}
 use mathlib.Core.Bool.{Bool, true, false, ◌&&◌}
+use Rattle.std.specs.Prelude.{Option, None, Some}
 use mathlib.Core.List.{List, [], ◌∷◌, ◌++◌, append_assoc}
 use Prim.Native.Nat.{ℕ, ◌≤◌, suc, ◌+◌, ◌*◌, ◌/◌, ◌%◌}
 use native.Mathlib.Nat.{zero-mul, zero-add, suc-add}
@@ -15,23 +16,27 @@ use Rattle.text.specs.Format.{File, tableau_file, list_file, partner_file, conca
 use Rattle.text.specs.Convert.{full_columns}
 use Rattle.text.specs.Inner.Reads.{file_numbers, reading_of, Reads, ColumnsRead, RowsRead}
 use Rattle.text.specs.Inner.Prints.{columns_at, tableau_file_of, list_file_of}
-use Rattle.text.specs.declared.reading.Reading.{Reading}
-use Rattle.text.specs.declared.reading.Reading.TheVariants.{NoFile, Tableau, Rows, PartnerRows}
+use Rattle.text.specs.declared.reading.Contents.{Contents}
+use Rattle.text.specs.declared.reading.Contents.TheVariants.{Tableau, Rows, PartnerRows}
 use Rattle.text.proofs.Unique.{one_file}
 
+-- the columns, as they are counted
+abbrev counted_as : ℕ → ℕ → ℕ → Bool → Contents
+counted_as d n lines full = Tableau (record { d = d; n = n; lines = lines; full = full })
+
 -- the answer is that of the one file that is laid out so
-pub reads_one : (text before : List ℕ) (r : Reading) (out : List ℕ) (f : File) → Reads text before r out → LaidOut text f
-    → (r ≡ reading_of f) × (out ≡ front (bytes_of (file_numbers f)) before)
-reads_one text before NoFile out f h laid = absurd (h f laid)
-reads_one text before (Tableau d n lines full) out f h laid =
-    let e = one_file text (tableau_file d n h.columns) f h.laid laid in
-    (ap₂ (λ (k : ℕ) (t : Bool). Tableau d n k t) h.counted h.sized ∙ ap reading_of e, h.holds ∙ ap (λ (g : File). front (bytes_of (file_numbers g)) before) e)
-reads_one text before (Rows d n lines) out f h laid =
+pub reads_one : (text before : List ℕ) (r : Option Contents) (out : List ℕ) (f : File) → Reads text before r out → LaidOut text f
+    → (r ≡ Some (reading_of f)) × (out ≡ front (bytes_of (file_numbers f)) before)
+reads_one text before None out f h laid = absurd (h f laid)
+reads_one text before (Some (Tableau c)) out f h laid =
+    let e = one_file text (tableau_file c.d c.n h.columns) f h.laid laid in
+    (ap₂ (λ (k : ℕ) (t : Bool). Some (counted_as c.d c.n k t)) h.counted h.sized ∙ ap (λ (g : File). Some (reading_of g)) e, h.holds ∙ ap (λ (g : File). front (bytes_of (file_numbers g)) before) e)
+reads_one text before (Some (Rows d n lines)) out f h laid =
     let e = one_file text (list_file d n h.rows) f h.laid laid in
-    (ap (Rows d n) h.counted ∙ ap reading_of e, h.holds ∙ ap (λ (g : File). front (bytes_of (file_numbers g)) before) e)
-reads_one text before (PartnerRows d n lines) out f h laid =
+    (ap (λ (k : ℕ). Some (Rows d n k)) h.counted ∙ ap (λ (g : File). Some (reading_of g)) e, h.holds ∙ ap (λ (g : File). front (bytes_of (file_numbers g)) before) e)
+reads_one text before (Some (PartnerRows d n lines)) out f h laid =
     let e = one_file text (partner_file d n h.rows) f h.laid laid in
-    (ap (PartnerRows d n) h.counted ∙ ap reading_of e, h.holds ∙ ap (λ (g : File). front (bytes_of (file_numbers g)) before) e)
+    (ap (λ (k : ℕ). Some (PartnerRows d n k)) h.counted ∙ ap (λ (g : File). Some (reading_of g)) e, h.holds ∙ ap (λ (g : File). front (bytes_of (file_numbers g)) before) e)
 
 -- ---- how many numbers there are
 and_left : (a b : Bool) → (a && b) ≡ true → a ≡ true

@@ -1,17 +1,19 @@
 -- Digits, and the letters of kinds. Assumes nothing.
 use mathlib.Core.Path.{◌≡◌, refl, sym, ap, ◌∙◌}
 use mathlib.Core.Bool.{Bool, true, false, cond}
+use Rattle.std.specs.Prelude.{Some}
 use mathlib.Core.List.{List, [], ◌∷◌, ◌++◌}
-use Prim.Native.Nat.{ℕ, zero, suc, ◌+◌, ◌*◌, ◌-◌, ◌/◌, ◌%◌, ◌≤◌, ◌<◌}
+use Prim.Native.Nat.{ℕ, zero, suc, ◌+◌, ◌*◌, ◌-◌, ◌/◌, ◌%◌, ◌^◌, ◌≤◌, ◌<◌}
 use native.Mathlib.Omega.{arith}
 use lib.Dec.{ltb, eqb}
 use lib.ListN.{length, length-append}
 use borrow.Author.Tests.{ltb-true, ltb-false, lt-ltb, le-ltb, ne_eqb}
+use Rattle.std.specs.Fmt as std
+use Rattle.std.proofs.lemmas.Fmt.{decimal_by_steps}
 use Rattle.text.specs.Format.{decimal, digits, letter_of, Fits, KindFits}
 use Rattle.text.specs.Inner.Scan.{kind_of, letter_field, first_digit, next_digit, value_of}
 use Rattle.text.specs.declared.reading.Field.{Field}
 use Rattle.text.specs.declared.reading.Field.TheVariants.{Number, Whole}
-use Rattle.text.specs.declared.reading.Value.TheVariants.{Is}
 
 pub decimal_low : (k x : ℕ) → x < 10 → decimal k x ≡ (48 + x) ∷ []
 unfolding decimal
@@ -62,6 +64,10 @@ digits_length x h = ap length (digits_last x h) ∙ length-append (digits (x / 1
 pub one_digit : (x : ℕ) → x < 10 → length (digits x) ≡ 1
 one_digit x h = ap length (digits_low x h)
 
+-- they are std's
+pub digits_std : (x : ℕ) → x < 2 ^ 64 → digits x ≡ std.decimal x
+digits_std x h = decimal_by_steps (λ n ds. digits n ≡ ds) (λ n l. digits_low n l) (λ n ds l e. digits_last n l ∙ ap (λ (w : List ℕ). w ++ ((48 + n % 10) ∷ [])) e) x h
+
 -- a number of at most `bound` has at most k digits
 most : (k bound x : ℕ) → x ≤ bound → ((y : ℕ) → y ≤ bound / 10 → length (digits y) ≤ k) → length (digits x) ≤ suc k
 most k bound x h r = go (ltb x 10) refl
@@ -82,19 +88,19 @@ pub number_some : (x : ℕ) → 0 < x → number_field x ≡ Number x
 unfolding number_field
 number_some x h = rw (ne_eqb x 0 (λ e. omega arith))
 
-pub value_number : (x : ℕ) → value_of (number_field x) ≡ Is x
+pub value_number : (x : ℕ) → value_of (number_field x) ≡ Some x
 unfolding number_field
 value_number zero = refl
 value_number (suc x) = rw (ne_eqb (suc x) 0 (λ e. omega arith))
 
-pub first_digit_lem : (x : ℕ) → x < 10 → first_digit (48 + x) ≡ number_field x
+pub first_digit_lem : (x : ℕ) → x < 10 → first_digit (48 + x) ≡ Some (number_field x)
 unfolding first_digit number_field
 first_digit_lem zero h = refl
 first_digit_lem (suc x) h =
     let e : 48 + suc x - 48 ≡ suc x = omega arith in
     rw (le-ltb (48 + suc x) 48 (omega arith), le-ltb 57 (48 + suc x) (omega arith), ne_eqb (48 + suc x) 48 (λ q. omega arith), e, ne_eqb (suc x) 0 (λ q. omega arith))
 
-pub next_digit_lem : (v x : ℕ) → x < 10 → 10 * v + x ≤ 65535 → next_digit v (48 + x) ≡ Number (10 * v + x)
+pub next_digit_lem : (v x : ℕ) → x < 10 → 10 * v + x ≤ 65535 → next_digit v (48 + x) ≡ Some (Number (10 * v + x))
 unfolding next_digit
 next_digit_lem v x h g =
     let e : 48 + x - 48 ≡ x = omega arith in
@@ -114,7 +120,7 @@ by_kind P a b c d e f g h (suc (suc (suc (suc (suc (suc (suc (suc zero)))))))) l
 by_kind P a b c d e f g h (suc (suc (suc (suc (suc (suc (suc (suc (suc k))))))))) l = absurd (omega arith)
 
 pub record Letter (k : ℕ) : Type 0 where
-  pub back : letter_field (letter_of k) ≡ Whole k
+  pub back : letter_field (letter_of k) ≡ Some (Whole k)
   pub no_comma : letter_of k ≡ 44 → ⊥
   pub no_end : letter_of k ≡ 10 → ⊥
 

@@ -1,5 +1,6 @@
 pub mod AfterByte
 pub mod Digits
+pub mod Letters
 pub mod Simulate
 pub mod Sound
 pub mod Answers

@@ -3,7 +3,7 @@ use mathlib.Core.Path.{◌≡◌, refl, sym, ap, ap₂, ◌∙◌}
 use mathlib.Core.Logic.{◌≢◌}
 use mathlib.Core.Bool.{Bool, true, ◌&&◌}
 use mathlib.Core.List.{List, [], ◌∷◌, ◌++◌, map}
-use Prim.Native.Nat.{ℕ, zero, suc, ◌+◌, ◌*◌, ◌/◌, ◌%◌, ◌≤◌}
+use Prim.Native.Nat.{ℕ, ◌+◌, ◌*◌, ◌/◌, ◌%◌, ◌≤◌}
 use native.Mathlib.Omega.{arith}
 use lib.ListN.{length, take, drop, length-map, length-append}
 use lib.Seq.{take_at, length-take-le}
@@ -11,9 +11,11 @@ use lib.Dec.{leb, eqb}
 use borrow.Author.Tests.{eq-eqb}
 use Rattle.arith.specs.Bytes.{bytes_of, front}
 use Rattle.arith.specs.Answers.{Written}
+use Rattle.arith.specs.declared.checks.Refusal.{Refusal}
 use Rattle.arith.specs.declared.checks.Refusal.TheVariants.{Length}
-use Rattle.arith.specs.Refusals.{or_else, given_of, whole_of, list_size_of, room_of, row_of, unless_holds}
-use Rattle.arith.proofs.Refusals.{or_else_past, given_good}
+use Rattle.std.specs.Prelude.{Result, Ok, Err}
+use Rattle.arith.specs.Refusals.{refusal_number, number_of, or_else, given_of, whole_of, list_size_of, room_of, row_of, unless_holds}
+use Rattle.arith.proofs.Refusals.{good, not_zero, or_else_past, given_good}
 use Rattle.arith.proofs.Passes.{room_passes}
 use Rattle.pauli.specs.Pauli.{Pauli}
 use Rattle.pauli.specs.Bytes.{numbers_of}
@@ -29,9 +31,7 @@ use Rattle.tableau.proofs.Run.{tableau_formed}
 use Rattle.text.specs.Format.{tableau_file, list_file, concatenated, print_file, print_refusal}
 use Rattle.text.specs.Inner.Prints.{Prints, tableau_file_of}
 use Rattle.text.specs.Convert.{full_columns, row_count_of, list_refusal, tableau_print}
-use Rattle.text.specs.Inner.FromBytes.{outcome_of, RowsConvert}
-use Rattle.text.specs.declared.Outcome.{Outcome}
-use Rattle.text.specs.declared.Outcome.TheVariants.{Done, Refused}
+use Rattle.text.specs.Inner.FromBytes.{printed_of, Outputs, RowsConvert}
 use Rattle.text.proofs.Back.{tableau_back}
 
 -- ---- the first r bytes of the output are what was printed
@@ -48,21 +48,26 @@ front_length k l h = sym (length-take-le k l h)
 pub front_room : (k : ℕ) (l : List ℕ) → k ≤ length l → k ≤ length (take k l)
 front_room k l h = omega (arith, length-take-le k l h)
 
--- ---- what a call's number x says: it is done where x is 0, and refused where it isn't
-pub done_none : (x : ℕ) {r : Outcome} → r ≡ outcome_of x → r ≡ Done → x ≡ 0
-done_none zero e g = refl
-done_none (suc x) e g = let z : ◌≡◌ {A = ℕ} 0 1 = cc in absurd (omega arith)
+-- ---- what a function that converts answers
+-- a refusal's number is not 0
+pub refused_some : (k : Refusal) → refusal_number k ≢ 0
+refused_some k e = not_zero {A = ℕ} {r = Err k} e refl
 
-pub refused_some : (x : ℕ) {k : ℕ} {r : Outcome} → r ≡ outcome_of x → r ≡ Refused k → x ≢ 0
-refused_some zero e g o = let z : ◌≡◌ {A = ℕ} 0 1 = cc in omega arith
-refused_some (suc x) e g o = omega arith
+-- ---- what a call's number says: it is done where the number is 0, and refused where it isn't
+pub done_none : {A : Type 0} (x : ℕ) {r : Result A Refusal} {a : A} → number_of r ≡ x → r ≡ Ok a → x ≡ 0
+done_none x e g = good x e g
 
-pub none_done : (x : ℕ) → x ≡ 0 → Done ≡ outcome_of x
-none_done x e = rw e
+pub none_done : {A : Type 0} (r : Result A Refusal) → number_of r ≡ 0 → (a : A) × (r ≡ Ok a)
+none_done (Ok a) e = (a, refl)
+none_done (Err k) e = absurd (refused_some k e)
 
-pub some_refused : (x : ℕ) → x ≢ 0 → Refused x ≡ outcome_of x
-some_refused zero h = absurd (h refl)
-some_refused (suc x) h = refl
+pub some_refused : {A : Type 0} (r : Result A Refusal) → number_of r ≢ 0 → (k : Refusal) × (r ≡ Err k)
+some_refused (Ok a) h = absurd (h refl)
+some_refused (Err k) h = (k, refl)
+
+-- what holds of whatever P holds of
+pub outputs_as : {P Q : List ℕ → Type 0} {r : Result ℕ Refusal} {out : List ℕ} → ((output : List ℕ) → P output → Q output) → Outputs P r out → Outputs Q r out
+outputs_as {r = r} {out = out} f h = record { inside = h.inside; holds = f (printed_of r out) h.holds }
 
 -- ---- the refusals of a list are those of its rows
 list_size : (k : ℕ) → list_size_of (8 * k) ≡ row_count_of k

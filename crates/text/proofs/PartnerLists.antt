@@ -3,12 +3,11 @@ use mathlib.Core.Path.{◌≡◌, sym, ap, ap₂, ◌∙◌}
 use mathlib.Core.Logic.{◌↔◌}
 use mathlib.Core.Bool.{Bool, true}
 use mathlib.Core.List.{List, map}
+use Rattle.std.specs.Prelude.{Result, Ok, Err}
 use Prim.Native.Nat.{ℕ, ◌*◌}
 use lib.ListN.{length, length-map}
 use Rattle.arith.specs.Refusals.{number_of, or_else, given_of, list_size_of, row_of, Dimension}
 use Rattle.arith.specs.declared.checks.Refusal.{Refusal}
-use Rattle.arith.specs.declared.checks.Check.{Check}
-use Rattle.arith.specs.declared.checks.Check.TheVariants.{Good, Refused}
 use Rattle.arith.proofs.Refusals.{good, not_zero, or_else_none, given_good, row_good}
 use Rattle.arith.proofs.Passes.{both_pass}
 use Rattle.gates.specs.Written.{WrittenRow, all_rows, all_legal_rows, list_rows}
@@ -47,20 +46,20 @@ module _ (d n : ℕ) (list : List ℕ) where
   refusal_same rows l e = ap₂ (λ (x : ℕ) (ws : List WrittenRow). or_else (given_of d n) (or_else x (row_of (all_rows (legal_partner d n) ws)))) (rows_size list rows l) e
 
   -- a refusal, where the check found r
-  pub partner_refused : {r : Check} {k : Refusal} {output : List ℕ} → number_of r ≡ partner_list_refusal d n list → r ≡ Refused k → output ≡ print_refusal (number_of r) → RowsConvert partner_file d n list output
+  pub partner_refused : {A : Type 0} {r : Result A Refusal} {k : Refusal} {output : List ℕ} → number_of r ≡ partner_list_refusal d n list → r ≡ Err k → output ≡ print_refusal (number_of r) → RowsConvert partner_file d n list output
   partner_refused e f p = λ rows l q.
       let same = e ∙ refusal_same rows l q in
       record { refused = λ z. p ∙ ap print_refusal same; accepted = λ z. absurd (not_zero (same ∙ z) f) }
 
   -- past the check the rows are legal
-  pub partner_passed : {r : Check} → number_of r ≡ partner_list_refusal d n list → r ≡ Good → Dimension d × (all_legal_rows d n (list_rows list) ≡ true)
+  pub partner_passed : {A : Type 0} {r : Result A Refusal} {m : A} → number_of r ≡ partner_list_refusal d n list → r ≡ Ok m → Dimension d × (all_legal_rows d n (list_rows list) ≡ true)
   partner_passed e f =
       let a = or_else_none (given_of d n) _ (good _ e f) in
       let b = or_else_none (list_size_of (length list)) _ a.1 in
       ((given_good a.0).dimension, partner_legal d n (list_rows list) (row_good _ b.1))
 
   -- and once they are translated they are printed as an L file's are
-  pub partner_printed : {r : Check} (new output : List ℕ) → number_of r ≡ partner_list_refusal d n list → r ≡ Good → length new ≡ length list
+  pub partner_printed : {A : Type 0} {r : Result A Refusal} {m : A} (new output : List ℕ) → number_of r ≡ partner_list_refusal d n list → r ≡ Ok m → length new ≡ length list
       → list_rows new ≡ map (translated d) (list_rows list) → RowsConvert list_file d n new output → RowsConvert partner_file d n list output
   partner_printed new output e f k t p = λ rows l q.
       (partner_as_list d n rows output (sym (refusal_same rows l q) ∙ good _ e f)).1

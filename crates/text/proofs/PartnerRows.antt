@@ -1,7 +1,12 @@
 -- Laws of a partner's rows (document 02, P3): what each is translated to, that it is legal, and that translating twice gives it back. Assumes nothing.
 use mathlib.Core.Path.{◌≡◌, refl, sym, ap, ◌∙◌}
 use mathlib.Core.Logic.{◌⊎◌, inl, inr, ◌≢◌}
-use mathlib.Core.Bool.{true, not}
+use mathlib.Core.Bool.{true, false, not}
+use Rattle.std.proofs.lemmas.Bool.{false≢true}
+use Rattle.gates.specs.Kind.{kind_number, NoKind}
+use Rattle.gates.specs.declared.kind.Kind.{Kind}
+use Rattle.gates.specs.declared.kind.Kind.TheVariants as kind
+use Rattle.text.specs.Inner.FromBytes.{undone_of}
 use mathlib.Core.List.{List, [], ◌∷◌, map}
 use Prim.Native.Nat.{ℕ, zero, suc, ◌+◌, ◌-◌, ◌≤◌, ◌<◌}
 use native.Mathlib.Nat.{mul_comm}
@@ -31,6 +36,35 @@ pub unchanged : (kind : ℕ) → (3 ≤ kind → kind ≤ 5 → ⊥) → Changes
 unchanged kind f (inl e) = f (omega arith) (omega arith)
 unchanged kind f (inr (inl e)) = f (omega arith) (omega arith)
 unchanged kind f (inr (inr e)) = f (omega arith) (omega arith)
+
+-- the same by the kinds of gates
+pub undone_changes : (k : Kind) → undone_of k ≡ true → Changes (kind_number k)
+undone_changes kind.F e = absurd (false≢true e)
+undone_changes kind.S e = absurd (false≢true e)
+undone_changes kind.A e = inl refl
+undone_changes kind.M e = inr (inl refl)
+undone_changes kind.X e = inr (inr refl)
+undone_changes kind.Z e = absurd (false≢true e)
+undone_changes kind.C e = absurd (false≢true e)
+undone_changes kind.W e = absurd (false≢true e)
+
+pub kept_stays : (k : Kind) → undone_of k ≡ false → Changes (kind_number k) → ⊥
+kept_stays k e h = false≢true (sym e ∙ back k h)
+  where
+    back : (k : Kind) → Changes (kind_number k) → undone_of k ≡ true
+    back kind.F c = absurd (unchanged 1 (λ a b. omega arith) c)
+    back kind.S c = absurd (unchanged 2 (λ a b. omega arith) c)
+    back kind.A c = refl
+    back kind.M c = refl
+    back kind.X c = refl
+    back kind.Z c = absurd (unchanged 6 (λ a b. omega arith) c)
+    back kind.C c = absurd (unchanged 7 (λ a b. omega arith) c)
+    back kind.W c = absurd (unchanged 8 (λ a b. omega arith) c)
+
+pub no_kind_stays : (x : ℕ) → NoKind kind_number x → Changes x → ⊥
+no_kind_stays x h (inl e) = h kind.A (sym e)
+no_kind_stays x h (inr (inl e)) = h kind.M (sym e)
+no_kind_stays x h (inr (inr e)) = h kind.X (sym e)
 
 pub by_changes : {P : Type 0} (kind : ℕ) → (Changes kind → P) → ((Changes kind → ⊥) → P) → P
 by_changes {P} kind f g = by_eq kind 3 (λ e. f (inl e)) (λ a. by_eq kind 4 (λ e. f (inr (inl e))) (λ b. by_eq kind 5 (λ e. f (inr (inr e))) (λ c. g (none a b c))))
@@ -78,9 +112,9 @@ translated_same d w h = ap (with_power w) (power_same d w.kind w.power h)
 
 pub translated_undone : (d n : ℕ) (w : WrittenRow) → 0 < d → legal_row d n w ≡ true → Changes w.kind → translated d w ≡ written (undo d (meant w))
 unfolding translated
-translated_undone d n w p l (inl e) = ap (with_power w) (power_undone d w.kind w.power p (inl e)) ∙ undo_other d n w l p (λ (q : w.kind ≡ 4). omega arith)
+translated_undone d n w p l (inl e) = ap (with_power w) (power_undone d w.kind w.power p (inl e)) ∙ undo_other d n w l (λ (q : w.kind ≡ 4). omega arith)
 translated_undone d n w p l (inr (inl e)) = ap (with_power w) (power_m d w.kind w.power e) ∙ undo_m d n w l e
-translated_undone d n w p l (inr (inr e)) = ap (with_power w) (power_undone d w.kind w.power p (inr e)) ∙ undo_other d n w l p (λ (q : w.kind ≡ 4). omega arith)
+translated_undone d n w p l (inr (inr e)) = ap (with_power w) (power_undone d w.kind w.power p (inr e)) ∙ undo_other d n w l (λ (q : w.kind ≡ 4). omega arith)
 
 -- only the power changes
 pub translated_power : (d : ℕ) (w : WrittenRow) → with_power w (translated d w).power ≡ translated d w

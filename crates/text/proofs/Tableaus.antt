@@ -3,6 +3,7 @@ use mathlib.Core.Path.{◌≡◌, sym, ap, ap₂, subst, ◌∙◌}
 use mathlib.Core.Logic.{◌↔◌, ◌⊎◌, inl, inr, ◌≢◌}
 use mathlib.Core.Bool.{Bool, true, false}
 use mathlib.Core.List.{List, [], ◌∷◌, ◌++◌, map, append-nil}
+use Rattle.std.specs.Prelude.{Result, Ok, Err}
 use Prim.Native.Nat.{ℕ, suc, ◌+◌, ◌*◌, ◌/◌, ◌≤◌}
 use native.Mathlib.Omega.{arith}
 use lib.ListN.{length, take, length-map, length-append}
@@ -11,9 +12,7 @@ use borrow.Author.Rules.{rules}
 use Rattle.arith.specs.Bytes.{tab, number_at, numbers_at, bytes_of}
 use Rattle.arith.specs.declared.checks.Refusal.{Refusal}
 use Rattle.arith.specs.declared.checks.Refusal.TheVariants.{Length}
-use Rattle.arith.specs.Refusals.{number_of, or_else, given_of, size_of, room_of, unless_holds}
-use Rattle.arith.specs.declared.checks.Check.{Check}
-use Rattle.arith.specs.declared.checks.Check.TheVariants.{Good, Refused}
+use Rattle.arith.specs.Refusals.{refusal_number, number_of, or_else, given_of, size_of, room_of, unless_holds}
 use Rattle.arith.specs.declared.checks.Answer.{Answer}
 use Rattle.arith.proofs.Bytes.{tab_cons, tab_append, tab_ext, tab_length, tab_map, bytes_length}
 use Rattle.arith.proofs.Refusals.{Given, good, stop, not_zero, or_else_none, or_else_past, or_else_assoc, given_good, size_good, held, both_held}
@@ -82,7 +81,7 @@ pub counts_full : (n count : ℕ) (full : Bool) (r : ℕ) → full ≡ true → 
 unfolding counts_of
 counts_full n count full r e f = rw e f
 
-pub counts_short : (n count : ℕ) (full : Bool) → full ≡ false → number_of (Refused Length) ≡ counts_of n count full
+pub counts_short : (n count : ℕ) (full : Bool) → full ≡ false → refusal_number Length ≡ counts_of n count full
 unfolding counts_of
 counts_short n count full e = rw e
 
@@ -148,7 +147,7 @@ list_length d n rows hd hn f =
 
 -- ---- what is printed
 -- the counts are wrong, or 1 or 2
-pub columns_refused : (d n count : ℕ) (full : Bool) (numbers : List ℕ) {r : Check} {k : Refusal} {output : List ℕ} → number_of r ≡ or_else (given_of d n) (counts_of n count full) → r ≡ Refused k
+pub columns_refused : (d n count : ℕ) (full : Bool) (numbers : List ℕ) {A : Type 0} {r : Result A Refusal} {k : Refusal} {output : List ℕ} → number_of r ≡ or_else (given_of d n) (counts_of n count full) → r ≡ Err k
     → output ≡ print_refusal (number_of r) → ColumnsConvert d n count full numbers output
 columns_refused d n count full numbers {output = output} e f p = λ columns rest c q same.
     let x = or_else (given_of d n) (counts_of n count full) in
@@ -165,7 +164,7 @@ columns_refused d n count full numbers {output = output} e f p = λ columns rest
     }
 
 -- past the counts: the bytes at the buffer's front are the tableau's
-pub columns_passed : (d n count : ℕ) (full : Bool) {r : Check} → number_of r ≡ or_else (given_of d n) (counts_of n count full) → r ≡ Good → Given d n × ((full ≡ true) × (count ≡ 2 * n))
+pub columns_passed : (d n count : ℕ) (full : Bool) {A : Type 0} {r : Result A Refusal} {m : A} → number_of r ≡ or_else (given_of d n) (counts_of n count full) → r ≡ Ok m → Given d n × ((full ≡ true) × (count ≡ 2 * n))
 columns_passed d n count full e f =
     let z = or_else_none (given_of d n) (counts_of n count full) (good _ e f) in
     (given_good z.0, counts_good n count full z.1)

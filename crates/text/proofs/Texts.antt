@@ -2,6 +2,9 @@
 use mathlib.Core.Path.{◌≡◌, ap, subst, ◌∙◌}
 use mathlib.Core.Bool.{Bool, true}
 use mathlib.Core.List.{List}
+use Rattle.std.specs.Prelude.{Option, None, Some, Result, Ok}
+use Rattle.std.specs.Result.{result_ok}
+use Rattle.arith.specs.declared.checks.Refusal.{Refusal}
 use Prim.Native.Nat.{ℕ, ◌+◌, ◌*◌, ◌≤◌}
 use native.Mathlib.Omega.{arith}
 use lib.ListN.{length, take, drop}
@@ -18,10 +21,9 @@ use Rattle.text.proofs.Back.{rows_room, columns_room}
 use Rattle.gates.proofs.Written.{rows_bytes, list_encoded}
 use Rattle.text.proofs.Lists.{rows_concatenated}
 use Rattle.text.proofs.Unique.{one_file}
-use Rattle.text.specs.declared.reading.Reading.{Reading}
-use Rattle.text.specs.declared.reading.Reading.TheVariants.{NoFile, Tableau, Rows, PartnerRows}
-use Rattle.text.specs.declared.Input.{Input}
-use Rattle.text.specs.declared.Input.TheVariants.{Complete, Incomplete}
+use Rattle.text.specs.declared.reading.Columns.{Columns}
+use Rattle.text.specs.declared.reading.Contents.{Contents}
+use Rattle.text.specs.declared.reading.Contents.TheVariants.{Tableau, Rows, PartnerRows}
 
 -- ---- 9
 pub converts_none : {text output : List ℕ} → ((f : File) → LaidOut text f → ⊥) → output ≡ print_refusal (refusal_number Text) → Converts text output
@@ -57,34 +59,38 @@ module _ (text before : List ℕ) {d n lines : ℕ} {full : Bool} (buffer : List
       converts_file text output (tableau_file d n columns) read.laid (p columns (drop (length b) before) read.counted read.sized read.holds)
 
 -- ---- by what the reader answers
-module _ (text before : List ℕ) (r : Reading) (buffer : List ℕ) (h : Reads text before r buffer) where
-  pub reads_none : r ≡ NoFile → (f : File) → LaidOut text f → ⊥
+-- the answer is what `?` goes on with
+pub found : {A : Type 0} {o : Option A} {r : Result A Refusal} {x y : A} → o ≡ result_ok r → r ≡ Ok x → x ≡ y → o ≡ Some y
+found e f g = e ∙ ap result_ok (f ∙ ap Ok g)
+
+module _ (text before : List ℕ) (r : Option Contents) (buffer : List ℕ) (h : Reads text before r buffer) where
+  pub reads_none : r ≡ None → (f : File) → LaidOut text f → ⊥
   reads_none e = rw e at h
 
   -- an L file, and a G file
-  pub read_rows : {d n lines : ℕ} → r ≡ Rows d n lines → RowsRead list_file text before d n lines buffer
+  pub read_rows : {d n lines : ℕ} → r ≡ Some (Rows d n lines) → RowsRead list_file text before d n lines buffer
   read_rows e = rw e at h
 
-  pub read_partner : {d n lines : ℕ} → r ≡ PartnerRows d n lines → RowsRead partner_file text before d n lines buffer
+  pub read_partner : {d n lines : ℕ} → r ≡ Some (PartnerRows d n lines) → RowsRead partner_file text before d n lines buffer
   read_partner e = rw e at h
 
   -- a T file
-  module _ {d n lines : ℕ} {full : Bool} (e : r ≡ Tableau d n lines full) where
-    read_columns : ColumnsRead text before d n lines full buffer
+  module _ {c : Columns} (e : r ≡ Some (Tableau c)) where
+    pub read_columns : ColumnsRead text before c.d c.n c.lines c.full buffer
     read_columns = rw e at h
 
-    pub columns_there : length buffer ≡ length before → full ≡ true → 2 * (lines * (1 + 2 * n)) ≤ length buffer
+    pub columns_there : length buffer ≡ length before → c.full ≡ true → 2 * (c.lines * (1 + 2 * c.n)) ≤ length buffer
     columns_there l f = columns_read_there text before buffer read_columns l f
 
-    pub converts_columns : (output : List ℕ) → ColumnsConvert d n lines full buffer output → Converts text output
+    pub converts_columns : (output : List ℕ) → ColumnsConvert c.d c.n c.lines c.full buffer output → Converts text output
     converts_columns output p = converts_columns_read text before buffer read_columns output p
 
 -- ---- what could be read of the input
-pub input_there : (size count : ℕ) (i : Input) → i ≡ Complete count → InputFits size i → count ≤ size
+pub input_there : (size count : ℕ) (i : Option ℕ) → i ≡ Some count → InputFits size i → count ≤ size
 input_there size count i e h = rw e at h
 
-pub input_complete : (buffer output : List ℕ) (count : ℕ) (i : Input) → i ≡ Complete count → Converts (take count buffer) output → ConvertsInput buffer i output
+pub input_complete : (buffer output : List ℕ) (count : ℕ) (i : Option ℕ) → i ≡ Some count → Converts (take count buffer) output → ConvertsInput buffer i output
 input_complete buffer output count i e h = rw e h
 
-pub input_incomplete : (buffer output : List ℕ) (i : Input) → i ≡ Incomplete → output ≡ print_refusal (refusal_number Text) → ConvertsInput buffer i output
+pub input_incomplete : (buffer output : List ℕ) (i : Option ℕ) → i ≡ None → output ≡ print_refusal (refusal_number Text) → ConvertsInput buffer i output
 input_incomplete buffer output i e h = rw e h

@@ -1,6 +1,7 @@
 -- A text is the print of one file at most, so the reader's contract leaves nothing open. Assumes nothing.
 use mathlib.Core.Path.{◌≡◌, refl, sym, ap, ap₂, ◌∙◌}
 use mathlib.Core.Bool.{Bool, true, false, cond}
+use Rattle.std.specs.Prelude.{Some}
 use mathlib.Core.List.{List, [], ◌∷◌, ◌++◌, append_assoc}
 use Prim.Native.Nat.{ℕ, zero, suc, ◌+◌, ◌*◌, ◌-◌, ◌/◌, ◌%◌, ◌≤◌, ◌<◌}
 use native.Mathlib.Omega.{arith}
@@ -124,7 +125,7 @@ columns_unique ((x ∷ xs) ∷ cs) ((y ∷ ys) ∷ es) f g e =
 
 letter_unique : (k j : ℕ) → Letter k → Letter j → letter_of k ≡ letter_of j → k ≡ j
 letter_unique k j l m e =
-    let h : Whole k ≡ Whole j = sym l.back ∙ ap letter_field e ∙ m.back in
+    let h : Some (Whole k) ≡ Some (Whole j) = sym l.back ∙ ap letter_field e ∙ m.back in
     cc
 
 -- a row's line is its letter, a comma, and a line of three numbers

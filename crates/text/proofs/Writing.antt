@@ -1,12 +1,12 @@
 -- Laws of what is written after what. Assumes nothing.
 use mathlib.Core.Path.{◌≡◌, refl, sym, ap, ap₂, ◌∙◌}
-use mathlib.Core.List.{List, [], ◌∷◌, ◌++◌}
+use mathlib.Core.List.{List, [], ◌∷◌, ◌++◌, append_assoc}
 use Prim.Native.Nat.{ℕ, ◌+◌, ◌*◌, ◌/◌, ◌%◌, ◌≤◌, ◌<◌}
 use native.Mathlib.Nat.{zero-add, add-zero}
 use native.Mathlib.Numerals.{add-one}
 use native.Mathlib.Omega.{arith}
-use lib.ListN.{length, set, drop, length-append}
-use lib.Seq.{sets, sets-eq}
+use lib.ListN.{length, set, take, drop, length-append}
+use lib.Seq.{sets, sets-eq, drop-drop}
 use Rattle.arith.proofs.Bytes.{tab_more, sets_append}
 use Rattle.arith.specs.Bytes.{tab, number_at, numbers_at}
 use Rattle.gates.specs.Written.{row_at}
@@ -26,6 +26,15 @@ puts_more out at a b next l last m p q = record {
 
 pub puts_byte : (out : List ℕ) (at b : ℕ) → PutsText out at (b ∷ []) (at + 1) (set out at b)
 puts_byte out at b = record { ends = refl; holds = refl }
+
+-- a text that is copied to where it belongs
+pub puts_mid : {text copied : List ℕ} (out : List ℕ) (at : ℕ) (a : List ℕ) (k : ℕ) → text ≡ a → copied ≡ text → k ≡ length text → at + length text ≤ length out
+    → PutsText out at a (at + length text) (take at out ++ (copied ++ drop k (drop at out)))
+puts_mid {text} out at a k e f g h = record {
+  ends = ap (λ (l : List ℕ). at + length l) e;
+  holds = ap₂ (λ (l r : List ℕ). take at out ++ (l ++ r)) (f ∙ e) (drop-drop k at out ∙ ap (λ (m : ℕ). drop (at + m) out) (g ∙ ap length e))
+      ∙ sym (append_assoc (take at out) a (drop (at + length a) out)) ∙ sym (sets-eq a out at (omega (arith, ap length e)));
+}
 
 -- one byte after a text
 pub puts_last : (out : List ℕ) (at : ℕ) (a : List ℕ) (b next : ℕ) (l : List ℕ) → PutsText out at a next l → PutsText out at (a ++ (b ∷ [])) (next + 1) (set l next b)

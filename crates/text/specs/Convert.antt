@@ -1,5 +1,5 @@
 -- What the text program prints for the text that it reads (document 01, "Text program"; document 02, P3).
-use Rattle.std.specs.Prelude.{◌≡◌, ◌↔◌, ◌⊎◌, ◌≢◌, Bool, true, ◌&&◌, List, [], ◌∷◌, map, ℕ, ◌+◌, ◌*◌, ◌≤◌, length, take, drop, leb, eqb}
+use Rattle.std.specs.Prelude.{◌≡◌, ◌↔◌, ◌⊎◌, ◌≢◌, Bool, true, ◌&&◌, Option, None, Some, List, [], ◌∷◌, map, ℕ, ◌+◌, ◌*◌, ◌≤◌, length, take, drop, leb, eqb}
 use Rattle.arith.specs.declared.checks.Refusal.TheVariants.{Length, Text}
 use Rattle.arith.specs.Refusals.{refusal_number, unless_holds, or_else, given_of, size_of, row_of}
 use Rattle.pauli.specs.Pauli.{Pauli, InRange, phase_only}
@@ -12,8 +12,6 @@ use Rattle.tableau.specs.Soundness.{soundness_of}
 use Rattle.synthesis.specs.Demand3.{Realises, Realisable}
 use Rattle.text.specs.Format.{File, tableau_file, list_file, partner_file, print_file, print_refusal, LaidOut}
 use Rattle.text.specs.Partner.{legal_partner, translated}
-use Rattle.text.specs.declared.Input.{Input}
-use Rattle.text.specs.declared.Input.TheVariants.{Complete, Incomplete}
 
 -- ---- an L file
 -- 3, length: more than 4,096 rows
@@ -97,12 +95,12 @@ pub record Converts (text output : List ℕ) : Type 0 where
   pub file : (f : File) → LaidOut text f → PrintsFor f output
   pub none : ((f : File) → LaidOut text f → ⊥) → output ≡ print_refusal (refusal_number Text)
 
--- the bytes that were read lie in the buffer
-abbrev pub InputFits : ℕ → Input → Type 0
-InputFits size (Complete count) = count ≤ size
-InputFits size Incomplete = Unit {0}
+-- so many bytes were read, which lie in the buffer; None where the input could not be read to its end
+abbrev pub InputFits : ℕ → Option ℕ → Type 0
+InputFits size (Some count) = count ≤ size
+InputFits size None = Unit {0}
 
 -- for the whole input what is said above of it; nothing but 9 where the input could not be read to its end
-abbrev pub ConvertsInput : List ℕ → Input → List ℕ → Type 0
-ConvertsInput buffer (Complete count) output = Converts (take count buffer) output
-ConvertsInput buffer Incomplete output = output ≡ print_refusal (refusal_number Text)
+abbrev pub ConvertsInput : List ℕ → Option ℕ → List ℕ → Type 0
+ConvertsInput buffer (Some count) output = Converts (take count buffer) output
+ConvertsInput buffer None output = output ≡ print_refusal (refusal_number Text)

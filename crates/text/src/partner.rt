@@ -1,64 +1,66 @@
 // A partner's list (document 02, P3): its rows are judged as they are written, and translated in place to document 01's convention.
-ghost use Rattle.std.specs.Prelude.{◌≡◌, true, map, ℕ};
-ghost use Rattle.arith.specs.Refusals.{Dimension, number_of, row_of};
+ghost use Rattle.std.specs.Prelude.{◌≡◌, true, map, ℕ, IfOk};
+ghost use Rattle.arith.specs.Refusals.{number_of, row_of};
 ghost use Rattle.gates.specs.Written.{legal_row, all_rows, all_legal_rows, list_rows};
 ghost use Rattle.gates.specs.Inner.View.{view_row};
 ghost use Rattle.text.specs.Partner.{legal_partner, translated};
-ghost use Rattle.text.specs.Inner.FromBytes.{partner_list_refusal};
+ghost use Rattle.text.specs.Inner.FromBytes.{partner_list_refusal, undone_of};
 
-use arith::checks::{Check, Refusal};
+use arith::checks::Refusal;
+use arith::modulus::{Modulus, given_list};
 use gates::Row;
-use gates::lists::read_row;
+use gates::kind::Kind;
+use gates::lists::{read_row, rows_pass};
 
 // Whether a partner may write the row: it is legal, and isn't S.
 #[tactic(auto, unfolding(crate::specs::Partner::legal_partner))]
-fn may_write(row: Row, d: u16, n: usize) -> bool
-    requires { Dimension d }
+fn may_write(row: Row, d: Modulus, n: usize) -> bool
     ensures { result ≡ legal_partner d n (view_row row) }
 {
-    row.legal(d, n) && row.kind != 2
+    row.legal(d, n) && row.kind != Kind::S as u16
 }
 
 // 6, row: a row of the list isn't one that a partner may write.
-fn rows_check(list: &[u8], d: u16, n: usize) -> Check
-    requires { Dimension d }
+fn rows_check(list: &[u8], d: Modulus, n: usize) -> Result<(), Refusal>
     ensures { number_of result ≡ row_of (all_rows (legal_partner d n) (list_rows list.now)) }
 {
-    let rows = list.len() / 8;
-    for r in 0..rows {
-        let row = read_row(list, r);
-        if !may_write(row, d, n) {
-            return Check::Refused(Refusal::Row);
-        }
-    }
-    Check::Good
+    rows_pass(list, |row| may_write(row, d, n))
 }
 
 // 1, 2, then 3 and 6 of the list.
-pub fn partner_check(d: u16, n: u16, list: &[u8]) -> Check
-    ensures { number_of result ≡ partner_list_refusal d n list.now }
+pub fn partner_check(d: u16, n: u16, list: &[u8]) -> Result<Modulus, Refusal>
+    ensures refusal { number_of result ≡ partner_list_refusal d n list.now }
+    ensures value { IfOk result (λ m. m ≡ d) }
 {
-    let of_list = arith::checks::given_list(d, n, list.len());
-    let Check::Good = of_list else {
-        return of_list;
-    };
-    rows_check(list, d, n as usize)
+    let (modulus, width) = given_list(d, n, list.len())?;
+    rows_check(list, modulus, width.value())?;
+    Ok(modulus)
 }
 
-// The row in document 01's convention: a partner's A, M and X are ours undone.
-fn our_row(row: Row, d: u16) -> Row
-    requires { Dimension d × ((n : ℕ) × (legal_row d n (view_row row) ≡ true)) }
+// Whether a partner's row of the kind is ours undone: A, M and X.
+fn is_undone(kind: Kind) -> bool
+    ensures { result ≡ undone_of kind }
+{
+    matches!(kind, Kind::A | Kind::M | Kind::X)
+}
+
+// The row in document 01's convention.
+fn our_row(row: Row, d: Modulus) -> Row
+    requires { (n : ℕ) × (legal_row d n (view_row row) ≡ true) }
     ensures { view_row result ≡ translated d (view_row row) }
 {
-    match row.kind {
-        3 | 4 | 5 => row.undo(d),
-        _ => row,
+    let Ok(kind) = Kind::try_from(row.kind) else {
+        return row;
+    };
+    if is_undone(kind) {
+        return row.undo(d);
     }
+    row
 }
 
 // Translates the rows of the list in place. Only powers change.
-pub fn translate(list: &mut [u8], d: u16)
-    requires { Dimension d × ((n : ℕ) × (all_legal_rows d n (list_rows list.old) ≡ true)) }
+pub fn translate(list: &mut [u8], d: Modulus)
+    requires { (n : ℕ) × (all_legal_rows d n (list_rows list.old) ≡ true) }
     ensures { list_rows list.new ≡ map (translated d) (list_rows list.old) }
 {
     let rows = list.len() / 8;

@@ -5,18 +5,20 @@ ghost use Rattle.gates.specs.Written.{row_at};
 ghost use Rattle.text.specs.Format.{digits, letter_of, header, column_line, row_line, concatenated, print_file, print_refusal};
 ghost use Rattle.text.specs.Inner.Prints.{PutsText, Prints, columns_at, tableau_file_of, list_file_of};
 
+use gates::kind::Kind;
+use itoa::Buffer;
+
 // Writes the digits of x. Each function here writes from position `at` on and returns the position after what it wrote.
+// The buffer and the position are two arguments: were they a struct's, each contract would also have to say that the struct holds the same buffer as before.
 fn print_number(out: &mut [u8], at: usize, x: u16) -> usize
     requires { at + length (digits x) ≤ length out.old }
     ensures { PutsText out.old at (digits x) result out.new }
 {
-    if x < 10 {
-        out[at] = b'0' + (x as u8);
-        return at + 1;
-    }
-    let next = print_number(out, at, x / 10);
-    out[next] = b'0' + ((x % 10) as u8);
-    next + 1
+    let mut buffer = Buffer::new();
+    let text = buffer.format(x).as_bytes();
+    let next = at + text.len();
+    out[at..next].copy_from_slice(text);
+    next
 }
 
 // Writes a number and the byte that ends its field.
@@ -46,12 +48,11 @@ fn print_column(out: &mut [u8], at: usize, b: &[u8], k: usize, m: usize) -> usiz
     ensures { (PutsText out.old at (column_line (numbers_at b.now k m)) result out.new) × (result ≤ at + 6 * m) }
 {
     let mut next = at;
-    let mut i = 0;
-    while i + 1 < m {
+    let last = m - 1;
+    for i in 0..last {
         next = print_field(out, next, arith::numbers::get(b, k + i), b',');
-        i += 1;
     }
-    print_field(out, next, arith::numbers::get(b, k + i), b'\n')
+    print_field(out, next, arith::numbers::get(b, k + last), b'\n')
 }
 
 // Writes `count` columns of m numbers each.
@@ -66,21 +67,14 @@ fn print_columns(out: &mut [u8], at: usize, b: &[u8], m: usize, count: usize) ->
     next
 }
 
-// The letter of a kind; 0 for no kind.
-#[tactic(auto, unfolding(crate::specs::Format::letter_of))]
+// The letter of a kind, by its number; 0 for no kind.
+#[tactic(auto, using(crate::proofs::Letters::letter_number, crate::proofs::Letters::no_letter))]
 fn letter(kind: u16) -> u8
     ensures { result ≡ letter_of kind }
 {
-    match kind {
-        1 => b'F',
-        2 => b'S',
-        3 => b'A',
-        4 => b'M',
-        5 => b'X',
-        6 => b'Z',
-        7 => b'C',
-        8 => b'W',
-        _ => 0,
+    match Kind::try_from(kind) {
+        Ok(kind) => kind.letter(),
+        Err(_) => 0,
     }
 }
 
@@ -94,7 +88,8 @@ fn print_row(out: &mut [u8], at: usize, b: &[u8], k: usize) -> usize
     print_column(out, at + 2, b, 4 * k + 1, 3)
 }
 
-// Writes the first `count` rows of b.
+// Writes the first `count` rows of b. It is the loop of `print_columns`: a function of both would take the line as a closure, and would have to say what each call of
+// that reads and writes, which is more than is said here twice.
 fn print_rows(out: &mut [u8], at: usize, b: &[u8], count: usize) -> usize
     requires { (8 * count ≤ length b.now) × (at + 20 * count ≤ length out.old) }
     ensures { (PutsText out.old at (concatenated row_line (tab (row_at b.now) count)) result out.new) × (result ≤ at + 20 * count) }

@@ -5,7 +5,7 @@ use Rattle.pauli.specs.Pauli.{Pauli}
 use Rattle.pauli.specs.Inner.Touched.{Touched, touched, replaced, Has}
 use Rattle.gates.specs.Row.{apply}
 use Rattle.gates.specs.Written.{WrittenRow, takes_two, meant}
-use Rattle.gates.specs.declared.Row.{Row as Code}
+pub use Rattle.gates.specs.declared.Row.{Row as Code}
 use Rattle.gates.specs.declared.Ready.{Ready}
 
 abbrev pub view_row : Code → WrittenRow

@@ -46,3 +46,7 @@ OnOne effect old new = (i : ℕ) (p : Pauli) → Has i p → touched i i p ≡ o
 
 abbrev pub OnTwo : (ℕ → ℕ → Pauli → Pauli) → Touched → Touched → Type 0
 OnTwo effect old new = (i j : ℕ) (p : Pauli) → i ≢ j → Has i p → Has j p → touched i j p ≡ old → Puts i j new p (effect i j p)
+
+-- the same of a function of the code, by what its calls take and give
+abbrev pub Makes : (Touched → Touched → Type 0) → (Code → Code → Type 0) → Type 0
+Makes on call = (old new : Code) → call old new → on (view_touched old) (view_touched new)

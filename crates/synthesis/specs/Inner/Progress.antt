@@ -1,9 +1,11 @@
 -- What the code holds at a state of the reduction, and what it is that code does a step of the reduction.
-use Rattle.std.specs.Prelude.{◌≡◌, ◌≢◌, true, List, map, reverse, ℕ, ◌+◌, ◌*◌, ◌≤◌, length}
+use Rattle.std.specs.Prelude.{◌≡◌, true, List, map, reverse, ℕ, ◌+◌, ◌*◌, ◌≤◌, length, Option, None, Some, IfSome}
 use Rattle.std.proofs.lemmas.List.Edits.{sets}
 use Rattle.pauli.specs.Pauli.{Pauli}
 use Rattle.gates.specs.Row.{Row, undo}
 use Rattle.gates.specs.Written.{WrittenRow, written, meant, legal_row, encode_rows}
+use Rattle.gates.specs.Inner.View.{view_row}
+use Rattle.gates.specs.declared.Row.{Row as Code}
 use Rattle.synthesis.specs.Inner.Reduce.{State, put}
 
 -- the undo rows of the rows so far, in the order in which those were made
@@ -21,8 +23,12 @@ pub record Does (d most : ℕ) (step : State → State) (t : List Pauli) (out : 
   pub does : (first : ℕ) (old : List ℕ) (s : State) → Holds d first old t out count s → Holds d first old t' out' count' (step s)
   pub within : count' ≤ count + most
 
--- the row w is what the step puts behind at the tableau t; a power of 0 says that it puts none
-pub record Says (d n : ℕ) (step : State → State) (t : List Pauli) (w : WrittenRow) : Type 0 where
-  pub idle : w.power ≡ 0 → (s : State) → t ≡ s.tableau → s ≡ step s
-  pub legal : w.power ≢ 0 → legal_row d n w ≡ true
-  pub puts : w.power ≢ 0 → (s : State) → t ≡ s.tableau → put d (meant w) s ≡ step s
+-- a row is put behind, if there is one
+abbrev pub put_made : ℕ → Option Code → State → State
+put_made d None s = s
+put_made d (Some row) s = put d (meant (view_row row)) s
+
+-- the row made, or none, is what the step puts behind at the tableau t
+pub record Says (d n : ℕ) (step : State → State) (t : List Pauli) (made : Option Code) : Type 0 where
+  pub legal : IfSome made (λ row. legal_row d n (view_row row) ≡ true)
+  pub puts : (s : State) → t ≡ s.tableau → put_made d made s ≡ step s

@@ -133,11 +133,15 @@ module _ (d n t : ℕ) where
   unfoldable pub stage : State → State
   stage s = second_column (partner_straightened (first_column s))
 
--- the phases of column i and column n + i, once the columns are units
+-- ---- the phases, once the columns are units: that of column i, and that of column n + i
+abbrev pub clear_z : ℕ → ℕ → ℕ → State → State
+clear_z d n i s = put_z d i (minus d ((column n s.tableau i).phase / 2)) s
+
+abbrev pub clear_x : ℕ → ℕ → ℕ → State → State
+clear_x d n i s = put_x d i ((column n s.tableau (n + i)).phase / 2 % d) s
+
 abbrev pub phases : ℕ → ℕ → ℕ → State → State
-phases d n i s =
-    let z = put_z d i (minus d ((column n s.tableau i).phase / 2)) s in
-    put_x d i ((column n z.tableau (n + i)).phase / 2 % d) z
+phases d n i s = clear_x d n i (clear_z d n i s)
 
 unfoldable pub reduce : ℕ → ℕ → State → State
 reduce d n s = each (phases d n) (up_from 0 n) (each (stage d n) (up_from 0 n) s)

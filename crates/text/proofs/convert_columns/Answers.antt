@@ -1,22 +1,18 @@
--- `text::convert_columns` meets its contract: 1, 2 and 3 are printed, or past them the front of the buffer is the tableau's.
-use Rattle.std.proofs.Common.{ap, ◌∙◌}
-use Rattle.text.specs.Format.{print_refusal}
-use Rattle.text.proofs.Lists.{printed, printed_room, front_length}
-use Rattle.text.proofs.Tableaus.{columns_refused, columns_passed, columns_bytes, columns_tableau}
+-- `text::convert_columns` meets its contract: 1, 2 and 3 are answered, or past them the front of the buffer is the tableau's.
+use Rattle.std.proofs.Common.{refl}
+use Rattle.std.specs.Prelude.{Ok}
+use Rattle.text.proofs.Lists.{front_length, outputs_as}
+use Rattle.text.proofs.Tableaus.{columns_passed, columns_bytes, columns_tableau}
 use Rattle.text.proofs.convert_columns.Goals as goal
-
-pub returns-in_default : goal.returns-in_default
-returns-in_default c =
-    let p = c.print_refusal.ensures in
-    (printed_room p, columns_refused _ _ _ _ _ c.columns_check-found.ensures c.in_default.is (printed p ∙ ap print_refusal c.number.ensures))
 
 pub slice_bounds-convert_tableau-end : goal.slice_bounds-convert_tableau-end
 slice_bounds-convert_tableau-end c =
-    let g = columns_passed _ _ _ _ c.columns_check-found.ensures c.in-Good.is in
-    front_length _ _ (columns_bytes _ _ _ g.1.1 (c.requires.inside g.1.0))
+    let e = c.in_ok-width.ensures in
+    let g = columns_passed _ _ _ _ {r = Ok c.in_ok-width.width} e.refusal refl in
+    front_length _ _ (rw (c.tableau_bytes-size.ensures, e.value) (columns_bytes _ _ _ g.1.1 (c.requires.inside g.1.0)))
 
 pub returns : goal.returns
 returns c =
-    let g = columns_passed _ _ _ _ c.columns_check-found.ensures c.in-Good.is in
-    let e = c.convert_tableau.ensures in
-    (e.0, columns_tableau _ _ _ _ _ _ g.1.0 g.1.1 e.1)
+    let e = c.in_ok-width.ensures in
+    let g = columns_passed _ _ _ _ {r = Ok c.in_ok-width.width} e.refusal refl in
+    outputs_as (λ o p. columns_tableau _ _ _ _ _ o g.1.0 g.1.1 p) (rw (c.tableau_bytes-size.ensures, e.value) at c.convert_tableau.ensures)

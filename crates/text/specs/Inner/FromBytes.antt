@@ -1,23 +1,41 @@
--- What a call's number says, and what is printed for the bytes of rows, of a tableau's 2n columns of 1 + 2n numbers, and of the columns of any T file at a
+-- What the functions that convert answer, and what is printed for the bytes of rows, of a tableau's 2n columns of 1 + 2n numbers, and of the columns of any T file at a
 -- buffer's front.
-use Rattle.std.specs.Prelude.{◌≡◌, Bool, true, List, ◌++◌, ℕ, zero, suc, ◌*◌, length}
-use Rattle.arith.specs.Refusals.{or_else, given_of, list_size_of, row_of}
+use Rattle.std.specs.Prelude.{◌≡◌, Bool, true, false, Result, Ok, Err, List, ◌++◌, ℕ, ◌*◌, ◌≤◌, length, take, IfOk}
+use Rattle.arith.specs.declared.checks.Refusal.{Refusal}
+use Rattle.arith.specs.Refusals.{refusal_number, or_else, given_of, list_size_of, row_of}
 use Rattle.arith.specs.Bytes.{bytes_of}
+use Rattle.gates.specs.declared.kind.Kind.{Kind}
+use Rattle.gates.specs.declared.kind.Kind.TheVariants as kind
 use Rattle.gates.specs.Written.{WrittenRow, all_rows, list_rows}
-use Rattle.text.specs.Format.{File, tableau_file}
+use Rattle.text.specs.Format.{File, tableau_file, print_refusal}
 use Rattle.text.specs.Partner.{legal_partner}
 use Rattle.text.specs.Convert.{full_columns, PrintsFor}
 use Rattle.text.specs.Inner.Reads.{file_numbers}
-use Rattle.text.specs.declared.Outcome.{Outcome}
-use Rattle.text.specs.declared.Outcome.TheVariants.{Done, Refused}
 
-abbrev pub outcome_of : ℕ → Outcome
-outcome_of zero = Done
-outcome_of (suc k) = Refused (suc k)
+-- what is printed, where so many bytes are printed at the output's front, or a refusal is still to be printed
+abbrev pub printed_of : Result ℕ Refusal → List ℕ → List ℕ
+printed_of (Ok count) out = take count out
+printed_of (Err k) out = print_refusal (refusal_number k)
+
+-- P holds of it
+pub record Outputs (P : List ℕ → Type 0) (r : Result ℕ Refusal) (out : List ℕ) : Type 0 where
+  pub inside : IfOk r (λ count. count ≤ length out)
+  pub holds : P (printed_of r out)
 
 -- 1, 2, 3 and 6 of a partner's list
 abbrev pub partner_list_refusal : ℕ → ℕ → List ℕ → ℕ
 partner_list_refusal d n list = or_else (given_of d n) (or_else (list_size_of (length list)) (row_of (all_rows (legal_partner d n) (list_rows list))))
+
+-- whether a partner's row of the kind is ours undone
+abbrev pub undone_of : Kind → Bool
+undone_of kind.F = false
+undone_of kind.S = false
+undone_of kind.A = true
+undone_of kind.M = true
+undone_of kind.X = true
+undone_of kind.Z = false
+undone_of kind.C = false
+undone_of kind.W = false
 
 -- the rows are those of an L file or of a G file
 abbrev pub RowsConvert : (ℕ → ℕ → List WrittenRow → File) → ℕ → ℕ → List ℕ → List ℕ → Type 0

@@ -1,16 +1,16 @@
 -- What the reader answers.
-use Rattle.std.specs.Prelude.{◌≡◌, Bool, cond, List, ℕ, length, eqb}
+use Rattle.std.specs.Prelude.{◌≡◌, Bool, cond, Option, None, Some, List, ℕ, length, eqb}
 use Rattle.arith.specs.Bytes.{bytes_of, front}
 use Rattle.gates.specs.Written.{WrittenRow, row_numbers}
 use Rattle.text.specs.Format.{File, tableau_file, list_file, partner_file, concatenated, LaidOut}
 use Rattle.text.specs.Convert.{full_columns}
 use Rattle.text.specs.declared.reading.Form.{Form}
-use Rattle.text.specs.declared.reading.Form.TheVariants.{TableHead, ListHead, Column, GateRow, Broken}
+use Rattle.text.specs.declared.reading.Form.TheVariants.{TableHead, ListHead, Column, GateRow}
 use Rattle.text.specs.declared.reading.Field.{Field}
-use Rattle.text.specs.declared.reading.Field.TheVariants.{Empty, Number, Whole, Bad}
+use Rattle.text.specs.declared.reading.Field.TheVariants.{Empty, Number, Whole}
 use Rattle.text.specs.declared.reading.State.{State}
-use Rattle.text.specs.declared.reading.Reading.{Reading}
-use Rattle.text.specs.declared.reading.Reading.TheVariants.{NoFile, Tableau, Rows, PartnerRows}
+use Rattle.text.specs.declared.reading.Contents.{Contents}
+use Rattle.text.specs.declared.reading.Contents.TheVariants.{Tableau, Rows, PartnerRows}
 
 -- the numbers of all columns, or of all rows, one after the other
 abbrev pub file_numbers : File → List ℕ
@@ -19,8 +19,8 @@ file_numbers (list_file d n rows) = concatenated row_numbers rows
 file_numbers (partner_file d n rows) = concatenated row_numbers rows
 
 -- the answer for a file
-abbrev pub reading_of : File → Reading
-reading_of (tableau_file d n columns) = Tableau d n (length columns) (full_columns n columns)
+abbrev pub reading_of : File → Contents
+reading_of (tableau_file d n columns) = Tableau (record { d = d; n = n; lines = length columns; full = full_columns n columns })
 reading_of (list_file d n rows) = Rows d n (length rows)
 reading_of (partner_file d n rows) = PartnerRows d n (length rows)
 
@@ -40,35 +40,32 @@ pub record RowsRead (file : ℕ → ℕ → List WrittenRow → File) (text befo
   pub holds : out ≡ front (bytes_of (concatenated row_numbers rows)) before
 
 -- the answer and the buffer, which held `before`; there is no file exactly where no file prints so
-abbrev pub Reads : List ℕ → List ℕ → Reading → List ℕ → Type 0
-Reads text before NoFile out = (f : File) → LaidOut text f → ⊥
-Reads text before (Tableau d n lines full) out = ColumnsRead text before d n lines full out
-Reads text before (Rows d n lines) out = RowsRead list_file text before d n lines out
-Reads text before (PartnerRows d n lines) out = RowsRead partner_file text before d n lines out
+abbrev pub Reads : List ℕ → List ℕ → Option Contents → List ℕ → Type 0
+Reads text before None out = (f : File) → LaidOut text f → ⊥
+Reads text before (Some (Tableau c)) out = ColumnsRead text before c.d c.n c.lines c.full out
+Reads text before (Some (Rows d n lines)) out = RowsRead list_file text before d n lines out
+Reads text before (Some (PartnerRows d n lines)) out = RowsRead partner_file text before d n lines out
 
 -- what the state at the end of the text answers: a whole file ends where a line would begin
-abbrev pub answer_at : Form → State → Reading
-answer_at TableHead s = NoFile
-answer_at ListHead s = NoFile
-answer_at Column s = Tableau s.d s.n s.lines s.full
-answer_at GateRow s = Rows s.d s.n s.lines
-answer_at Broken s = NoFile
+abbrev pub answer_at : Form → State → Option Contents
+answer_at TableHead s = None
+answer_at ListHead s = None
+answer_at Column s = Some (Tableau (record { d = s.d; n = s.n; lines = s.lines; full = s.full }))
+answer_at GateRow s = Some (Rows s.d s.n s.lines)
 
-abbrev pub whole_of : State → Reading
-whole_of s = cond (eqb s.place 0) (answer_at s.form s) NoFile
+abbrev pub whole_of : State → Option Contents
+whole_of s = cond (eqb s.place 0) (answer_at s.form s) None
 
-abbrev pub answer_of : Field → State → Reading
+abbrev pub answer_of : Field → State → Option Contents
 answer_of Empty s = whole_of s
-answer_of (Number x) s = NoFile
-answer_of (Whole x) s = NoFile
-answer_of Bad s = NoFile
+answer_of (Number x) s = None
+answer_of (Whole x) s = None
 
 -- the rows that were read are a partner's where the text's first byte is G
-abbrev pub partner_of : Reading → Reading
-partner_of NoFile = NoFile
-partner_of (Tableau d n lines full) = Tableau d n lines full
+abbrev pub partner_of : Contents → Contents
+partner_of (Tableau c) = Tableau c
 partner_of (Rows d n lines) = PartnerRows d n lines
 partner_of (PartnerRows d n lines) = PartnerRows d n lines
 
-unfoldable pub named_of : ℕ → Reading → Reading
+unfoldable pub named_of : ℕ → Contents → Contents
 named_of first r = cond (eqb first 71) (partner_of r) r

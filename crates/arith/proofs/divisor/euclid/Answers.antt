@@ -34,7 +34,7 @@ pub loop-x-preserved : goal.loop-x-preserved
 loop-x-preserved c =
     let l = c.loop-x in let d = c.args.d in
     turn_next l.x l.y (omega arith) (omega arith) l.invariant
-    (c.minus-u.ensures ∙ ap (λ (x : ℕ). (l.t.0 + neg d x) % d) (c.times.ensures ∙ ap (λ (x : ℕ). x * l.s.0 % d) c.near-quotient.ensures))
+    (c.minus-u.ensures.value ∙ ap (λ (x : ℕ). (l.t.0 + neg d x) % d) (c.times.ensures ∙ ap (λ (x : ℕ). x * l.s.0 % d) c.near-quotient.ensures.value))
 
 pub returns : goal.returns
 returns c = let l = c.loop-x in turn_done c.args.d c.args.a.0 l.x l.y l.s.0 l.t.0 (omega arith) l.invariant

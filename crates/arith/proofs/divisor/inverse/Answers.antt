@@ -8,5 +8,5 @@ use Rattle.arith.proofs.divisor.inverse.Goals as goal
 pub returns : goal.returns
 returns c =
     let z = c.args in let r = c.euclid in
-    inverse_only z.d z.q.0 (omega arith) c.requires.1 r.result.factor.0 r.ensures.1
-    (cong_trans (cong_of_eq (mul_comm z.q.0 r.result.factor.0)) (record { same = r.ensures.2 ∙ ap (λ (x : ℕ). x % z.d) c.requires.1 }))
+    inverse_only z.d z.q.0 (omega arith) c.requires r.result.factor.0 r.ensures.1
+    (cong_trans (cong_of_eq (mul_comm z.q.0 r.result.factor.0)) (record { same = r.ensures.2 ∙ ap (λ (x : ℕ). x % z.d) c.requires }))

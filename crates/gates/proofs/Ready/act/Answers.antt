@@ -1,42 +1,51 @@
 -- `gates::Ready::act` meets its contract: what is done is the effect of the row's kind, and no legal row has another kind. The effects of X and Z
 -- are looked up, not named: so a program that exchanges them is refused at what it does.
-use Rattle.std.proofs.Common.{rules, ap, refl, arith}
-use Rattle.pauli.specs.Effects.{effect_f, effect_s, effect_a, effect_m, effect_x, effect_z, effect_c, effect_w}
-use Rattle.gates.specs.Inner.View.{view_row}
-use Rattle.gates.specs.Written.{takes_two}
-use Rattle.gates.proofs.Acts.{acts_one, acts_two}
-use Rattle.gates.proofs.Written.{legal_bounds, legal_apart}
+use Rattle.std.proofs.Common.{rules, ◌≡◌, ℕ, ap, refl, sym, ◌∙◌}
+use Rattle.gates.specs.declared.kind.Kind.{Kind as Code}
+use Rattle.gates.specs.declared.kind.Kind.TheVariants as code
+use Rattle.gates.specs.Kind.{kind_number, NoKind}
+use Rattle.gates.proofs.Acts.{acts_f, acts_s, acts_a, acts_m, acts_x, acts_z, acts_c, acts_w}
+use Rattle.gates.proofs.Written.{Kind, kind_f, kind_s, kind_a, kind_m, kind_x, kind_z, kind_c, kind_w, legal_sort}
 use Rattle.gates.proofs.Ready.act.Goals as goal
 
-pub returns-in-1 : goal.returns-in-1
-returns-in-1 c n legal = let a = c.args in acts_one a.d (view_row a.self.row) 1 c.in-1.is (λ i p. effect_f a.d i a.self.row.power p) refl (λ p. refl) c.effect_f.ensures
+-- the number of the kind that was found
+found : {k l : Code} {number : ℕ} → k ≡ l → kind_number k ≡ number → number ≡ kind_number l
+found e h = sym h ∙ ap kind_number e
 
-pub returns-in-2 : goal.returns-in-2
-returns-in-2 c n legal = let a = c.args in acts_one a.d (view_row a.self.row) 2 c.in-2.is (λ i p. effect_s a.d i a.self.row.power p) refl (λ p. refl) c.effect_s.ensures
+-- and where none was found there is none
+numbered : {number : ℕ} → Kind number → NoKind kind_number number → ⊥
+numbered kind_f none = none code.F refl
+numbered kind_s none = none code.S refl
+numbered kind_a none = none code.A refl
+numbered kind_m none = none code.M refl
+numbered kind_x none = none code.X refl
+numbered kind_z none = none code.Z refl
+numbered kind_c none = none code.C refl
+numbered kind_w none = none code.W refl
 
-pub returns-in-3 : goal.returns-in-3
-returns-in-3 c n legal =
-    let a = c.args in
-    acts_two a.d (view_row a.self.row) 3 c.in-3.is (λ i j p. effect_a a.d i j a.self.row.power p) refl (λ p. refl) (legal_apart a.d n _ legal (ap takes_two c.in-3.is)) c.effect_a.ensures
+pub returns-in-Ok-F : goal.returns-in-Ok-F
+returns-in-Ok-F c n legal = acts_f _ _ (found c.in-Ok-F.field-0-is c.in-Ok-F.ensures) c.effect_f.ensures
 
-pub returns-in-4 : goal.returns-in-4
-returns-in-4 c n legal = let a = c.args in acts_one a.d (view_row a.self.row) 4 c.in-4.is (λ i p. effect_m a.d i a.self.row.power p) refl (λ p. refl) c.effect_m.ensures
+pub returns-in-Ok-S : goal.returns-in-Ok-S
+returns-in-Ok-S c n legal = acts_s _ _ (found c.in-Ok-S.field-0-is c.in-Ok-S.ensures) c.effect_s.ensures
 
-pub returns-in-5 : goal.returns-in-5
-returns-in-5 c n legal = let a = c.args in acts_one a.d (view_row a.self.row) 5 c.in-5.is (λ i p. effect_x a.d i a.self.row.power p) refl (λ p. refl) (search rules)
+pub returns-in-Ok-A : goal.returns-in-Ok-A
+returns-in-Ok-A c n legal = acts_a _ _ n legal (found c.in-Ok-A.field-0-is c.in-Ok-A.ensures) c.effect_a.ensures
 
-pub returns-in-6 : goal.returns-in-6
-returns-in-6 c n legal = let a = c.args in acts_one a.d (view_row a.self.row) 6 c.in-6.is (λ i p. effect_z a.d i a.self.row.power p) refl (λ p. refl) (search rules)
+pub returns-in-Ok-M : goal.returns-in-Ok-M
+returns-in-Ok-M c n legal = acts_m _ _ (found c.in-Ok-M.field-0-is c.in-Ok-M.ensures) c.effect_m.ensures
 
-pub returns-in-7 : goal.returns-in-7
-returns-in-7 c n legal =
-    let a = c.args in
-    acts_two a.d (view_row a.self.row) 7 c.in-7.is (λ i j p. effect_c a.d i j a.self.row.power p) refl (λ p. refl) (legal_apart a.d n _ legal (ap takes_two c.in-7.is)) c.effect_c.ensures
+pub returns-in-Ok-X : goal.returns-in-Ok-X
+returns-in-Ok-X c n legal = acts_x _ _ (found c.in-Ok-X.field-0-is c.in-Ok-X.ensures) (search rules)
 
-pub returns-in-8 : goal.returns-in-8
-returns-in-8 c n legal =
-    let a = c.args in
-    acts_two a.d (view_row a.self.row) 8 c.in-8.is (λ i j p. effect_w i j p) refl (λ p. refl) (legal_apart a.d n _ legal (ap takes_two c.in-8.is)) c.effect_w.ensures
+pub returns-in-Ok-Z : goal.returns-in-Ok-Z
+returns-in-Ok-Z c n legal = acts_z _ _ (found c.in-Ok-Z.field-0-is c.in-Ok-Z.ensures) (search rules)
 
-pub returns-in_default : goal.returns-in_default
-returns-in_default c n legal = absurd (omega (arith, legal_bounds c.args.d n _ legal, c.in_default))
+pub returns-in-Ok-C : goal.returns-in-Ok-C
+returns-in-Ok-C c n legal = acts_c _ _ n legal (found c.in-Ok-C.field-0-is c.in-Ok-C.ensures) c.effect_c.ensures
+
+pub returns-in-Ok-W : goal.returns-in-Ok-W
+returns-in-Ok-W c n legal = acts_w _ _ n legal (found c.in-Ok-W.field-0-is c.in-Ok-W.ensures) c.effect_w.ensures
+
+pub returns-in-Err : goal.returns-in-Err
+returns-in-Err c n legal = absurd (numbered (legal_sort c.args.d n _ legal) c.in-Err.ensures.1)

@@ -1,10 +1,7 @@
 -- `pauli::Pauli::effect_s` meets its contract: the effect on the numbers that it touches.
-use Rattle.std.proofs.Common.{sym, ◌∙◌}
-use Rattle.pauli.specs.Inner.View.{view}
-use Rattle.pauli.proofs.Numbers.{view_has, placed_one}
+use Rattle.std.proofs.Common.{rules}
+use Rattle.pauli.specs.Effects.{effect_s}
 use Rattle.pauli.proofs.Pauli.effect_s.Goals as goal
 
 pub returns-clause-value : goal.returns-clause-value
-returns-clause-value c n l m =
-    let a = c.args in
-    c.placed.ensures.value n l m ∙ sym (placed_one (c.effect_s-t.ensures a.i (view n a.self) (view_has a.self l) (sym (c.touched.ensures n l l))))
+returns-clause-value c n l m = c.on_one.ensures.value n (λ i p. effect_s c.args.d i c.args.k.0 p) l m (λ s t h. search rules)

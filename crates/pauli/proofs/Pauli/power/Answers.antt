@@ -27,6 +27,6 @@ power_phase d k h {x = x} pos e i j l =
 pub returns-clause-value : goal.returns-clause-value
 returns-clause-value c =
     c.scaled.ensures.value
-    ∙ pauli_path (power_phase _ _ _ (omega arith) (rw (c.value-2.ensures, c.value.ensures) at c.reduced-phase.ensures) c.ordered_pairs.ensures.0 c.reduced-twist.ensures c.sum_of_products.ensures.0)
+    ∙ pauli_path (power_phase _ _ _ (omega arith) (rw (c.value-2.ensures, c.value.ensures) at c.reduced-phase.ensures.value) c.ordered_pairs.ensures.0 c.reduced-twist.ensures.value c.sum_of_products.ensures.0)
     (sym (scaled_tab _ _ _ _)) (sym (scaled_tab _ _ _ _))
     ∙ sym (power_closed c.args.d c.args.n c.args.k.0 (omega arith) c.requires.in_range)

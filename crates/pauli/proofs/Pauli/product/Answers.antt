@@ -14,4 +14,4 @@ product_phase d a b {x = x} pos e f g h = rw (e, f, g, h) (reduced_sum d a b x p
 pub returns-clause-value : goal.returns-clause-value
 returns-clause-value c =
     c.summed.ensures.value
-    ∙ pauli_path (product_phase _ _ _ (omega arith) c.plus-phase.ensures c.plus.ensures c.reduced-twist.ensures c.sum_of_products.ensures.0) refl refl
+    ∙ pauli_path (product_phase _ _ _ (omega arith) c.plus-phase.ensures.value c.plus.ensures.value c.reduced-twist.ensures.value c.sum_of_products.ensures.0) refl refl

@@ -15,8 +15,9 @@ returns c =
     let a = c.args in
     let r = c.read_numbers-numbers in
     let z : a.k + 0 ≡ a.k = omega arith in
-    let vs = c.entries_from-v.ensures a.n (omega arith) ∙ taken r.result a.b.now a.k a.n 1 (a.k + 1) r.ensures (omega arith) refl in
-    let ws = c.entries_from-w.ensures a.n (omega arith) ∙ taken r.result a.b.now a.k a.n (1 + a.n) (a.k + 1 + a.n) r.ensures (omega arith) (omega arith) in
+    let h = rw c.value-m.ensures.value at r.ensures in
+    let vs = c.entries_from-v.ensures a.n (omega arith) ∙ taken r.result a.b.now a.k a.n 1 (a.k + 1) h (omega arith) refl in
+    let ws = c.entries_from-w.ensures a.n (omega arith) ∙ taken r.result a.b.now a.k a.n (1 + c.value-m.result) (a.k + 1 + a.n) h (omega arith) (omega arith) in
     record {
       value = pauli_path (c.lent.ensures ∙ r.ensures 0 (omega arith) ∙ ap (number_at a.b.now) z) vs ws;
       word = c.word_at-word.ensures ∙ ap word_of (sym (ap₂ marks vs ws));

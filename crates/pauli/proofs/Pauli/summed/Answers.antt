@@ -8,7 +8,7 @@ pub loop-i-init : goal.loop-i-init
 loop-i-init c = filled_none _ _ refl refl
 
 pub loop-i-preserved : goal.loop-i-preserved
-loop-i-preserved c = filled_more _ _ c.loop-i.i _ _ (omega arith) c.plus-xs.ensures c.plus-zt.ensures c.with_next-sum_word.ensures c.loop-i.invariant
+loop-i-preserved c = filled_more _ _ c.loop-i.i _ _ (omega arith) c.plus-xs.ensures.value c.plus-zt.ensures.value c.with_next-sum_word.ensures c.loop-i.invariant
 
 pub returns-clause-value : goal.returns-clause-value
 returns-clause-value c =

@@ -5,4 +5,4 @@ use Rattle.pauli.specs.Support.{marks, word_of}
 use Rattle.pauli.proofs.bytes.word_at.Given as goal
 
 abbrev pub invariant-loop-i : goal.invariant-loop-i
-invariant-loop-i l = l.word ≡ word_of (marks (numbers_at l.b l.k l.i) (numbers_at l.b (l.k + l.n) l.i))
+invariant-loop-i l = l.word ≡ word_of (marks (numbers_at l.b l.k l.i) (numbers_at l.b (l.k + l.m) l.i))

@@ -1,5 +1,5 @@
 -- `tableau::batch::write_images` meets its contract.
-use Rattle.std.proofs.Common.{◌<◌, ap, sym, arith}
+use Rattle.std.proofs.Common.{◌<◌, ap, sym, arith, rules}
 use Rattle.tableau.specs.Tableau.{image}
 use Rattle.tableau.specs.Inner.View.{table_view}
 use Rattle.tableau.specs.Inner.Parts.{paulis_at}
@@ -18,7 +18,7 @@ loop-j-preserved c =
     let a = c.args in
     let f = c.requires.all_in_range in
     let pos : 0 < a.d = omega arith in
-    columns_next a.n (mapped a.t.now a.batch.now a.m a.d a.n) c.loop-j.j (λ i. numbers_length (image_range pos f.0 (column_range i pos f.1))) (ap (image a.d a.n (table_view a.n a.t.now)) (sym (batch_at a.n a.batch.now a.m c.loop-j.j c.loop-j-test.true))) c.loop-j.invariant c.write_image.ensures
+    columns_next a.n (mapped a.t.now a.batch.now a.m a.d a.n) c.loop-j.j (λ i. numbers_length (image_range pos f.0 (column_range i pos f.1))) (ap (image a.d a.n (table_view a.n a.t.now)) (sym (batch_at a.n a.batch.now a.m c.loop-j.j c.loop-j-test.true))) c.loop-j.invariant (search rules)
 
 pub returns : goal.returns
 returns c =

@@ -2,12 +2,13 @@
 use Rattle.std.proofs.Common.{ℕ, List}
 use Rattle.pauli.specs.Pauli.{Pauli}
 use Rattle.tableau.specs.Tableau.{column, image}
+use Rattle.tableau.specs.declared.column.Table.{Table}
 use Rattle.tableau.specs.Inner.View.{table_view}
 use Rattle.tableau.specs.Inner.Parts.{paulis_at}
 use Rattle.tableau.proofs.Bytes.{ColumnsWritten}
 use Rattle.tableau.proofs.batch.write_images.Given as goal
 
-abbrev pub mapped : List (List ℕ) → List ℕ → ℕ → ℕ → ℕ → ℕ → Pauli
+abbrev pub mapped : Table → List ℕ → ℕ → ℕ → ℕ → ℕ → Pauli
 mapped t batch m d n j = image d n (table_view n t) (column n (paulis_at n batch m) j)
 
 abbrev pub invariant-loop-j : goal.invariant-loop-j

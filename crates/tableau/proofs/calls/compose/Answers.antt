@@ -1,21 +1,16 @@
--- `tableau::calls::compose` meets its contract: what its check refuses, then what its tests refuse (`compose_parts`), then the answer.
-use Rattle.std.proofs.Common.{sym}
-use Rattle.arith.proofs.Refusals.{stop_first, stop_written, or_else_none, size_good, room_good}
-use Rattle.tableau.proofs.Accepted.{sized_good, compose_parts}
+-- `tableau::calls::compose` meets its contract: what its checks have shown.
+use Rattle.std.proofs.Common.{sym, ◌∙◌}
+use Rattle.tableau.proofs.Accepted.{given_size, lent_good, table_formed}
 use Rattle.tableau.proofs.calls.compose.Goals as goal
 
-pub returns-in_default : goal.returns-in_default
-returns-in_default c =
-    let a = c.args in
-    stop_written _ _ (stop_first _ _ (compose_parts a.d a.n a.first.now a.second.now _) c.compose_check-found.ensures c.in_default.is) c.number.ensures
+pub read_into-requires : goal.read_into-requires
+read_into-requires c = record { size = given_size (sym c.in_ok-modulus.ensures.refusal) c.in_ok-modulus.ensures.value }
 
-pub tested_compose-requires-clause-dimension : goal.tested_compose-requires-clause-dimension
-tested_compose-requires-clause-dimension c =
-    let h = sized_good (or_else_none _ _ (sym c.in-Good.ensures)).0 in
-    (h.given.dimension, h.given.width.n_high)
+pub read_into-requires-2 : goal.read_into-requires-2
+read_into-requires-2 c = record { size = (lent_good (sym c.in_ok-lent.ensures)).0 ∙ c.tableau_bytes-want.ensures }
 
-pub tested_compose-requires-clause-lengths : goal.tested_compose-requires-clause-lengths
-tested_compose-requires-clause-lengths c =
-    let z = or_else_none _ _ (sym c.in-Good.ensures) in
-    let y = or_else_none _ _ z.1 in
-    ((sized_good z.0).size, (size_good y.0, room_good y.1))
+pub write_composed-requires-clause-well_formed : goal.write_composed-requires-clause-well_formed
+write_composed-requires-clause-well_formed c = (table_formed c.args.first.now c.read_into.ensures (sym c.in_ok-range.ensures), table_formed c.args.second.now c.read_into-2.ensures (sym c.in_ok-range-2.ensures))
+
+pub write_composed-requires-clause-room : goal.write_composed-requires-clause-room
+write_composed-requires-clause-room c = rw (← c.tableau_bytes-want.ensures) (lent_good (sym c.in_ok-lent.ensures)).1

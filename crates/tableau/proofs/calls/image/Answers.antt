@@ -1,16 +1,30 @@
--- `tableau::calls::image` meets its contract: what its check refuses, then what its tests refuse, then the answer.
-use Rattle.std.proofs.Common.{sym}
-use Rattle.arith.proofs.Refusals.{or_else_none, size_good, room_good}
-use Rattle.tableau.proofs.Accepted.{sized_good}
+-- `tableau::calls::image` meets its contract: what its checks have shown, and that what it writes is at the front of the output.
+use Rattle.std.proofs.Common.{sym, ap, ℕ, arith, rules}
+use Rattle.pauli.proofs.Encoding.{write_answer}
+use Rattle.tableau.proofs.Accepted.{given_size, lent_good, table_formed}
 use Rattle.tableau.proofs.calls.image.Goals as goal
 
-pub tested_image-requires-clause-dimension : goal.tested_image-requires-clause-dimension
-tested_image-requires-clause-dimension c =
-    let h = sized_good (or_else_none _ _ (sym c.in-Good.ensures)).0 in
-    (h.given.dimension, h.given.width.n_high)
+pub read_into-requires : goal.read_into-requires
+read_into-requires c = record { size = given_size (sym c.in_ok-modulus.ensures.refusal) c.in_ok-modulus.ensures.value }
 
-pub tested_image-requires-clause-lengths : goal.tested_image-requires-clause-lengths
-tested_image-requires-clause-lengths c =
-    let z = or_else_none _ _ (sym c.in-Good.ensures) in
-    let y = or_else_none _ _ z.1 in
-    ((sized_good z.0).size, (size_good y.0, room_good y.1))
+pub read-q-requires : goal.read-q-requires
+read-q-requires c =
+    let same = ap (λ (p : ℕ × ℕ). p.1) c.in_ok-modulus.ensures.value in
+    let lent = lent_good (sym c.in_ok-lent.ensures) in
+    omega arith
+
+pub image-requires : goal.image-requires
+image-requires c = record { all_in_range = (table_formed c.args.tableau.now c.read_into.ensures (sym c.in_ok-range.ensures)).ranges }
+
+pub write-requires : goal.write-requires
+write-requires c =
+    let same = ap (λ (p : ℕ × ℕ). p.1) c.in_ok-modulus.ensures.value in
+    let lent = lent_good (sym c.in_ok-lent.ensures) in
+    omega arith
+
+pub returns : goal.returns
+returns c =
+    let same = ap (λ (p : ℕ × ℕ). p.1) c.in_ok-modulus.ensures.value in
+    let lent = lent_good (sym c.in_ok-lent.ensures) in
+    let answer = write_answer c.in_ok-modulus.width _ _ c.image.result _ (omega arith) c.write.ensures c.image.ensures.value in
+    search rules

@@ -1,15 +1,14 @@
--- `tableau::calls::inverse` meets its contract: what its check refuses, then what its tests refuse, then the answer.
+-- `tableau::calls::inverse` meets its contract: what its checks have shown.
 use Rattle.std.proofs.Common.{sym}
-use Rattle.arith.proofs.Refusals.{or_else_none, room_good}
-use Rattle.tableau.proofs.Accepted.{sized_good}
+use Rattle.arith.proofs.Refusals.{room_good}
+use Rattle.tableau.proofs.Accepted.{given_size, table_sound}
 use Rattle.tableau.proofs.calls.inverse.Goals as goal
 
-pub tested_inverse-requires-clause-dimension : goal.tested_inverse-requires-clause-dimension
-tested_inverse-requires-clause-dimension c =
-    let h = sized_good (or_else_none _ _ (sym c.in-Good.ensures)).0 in
-    (h.given.dimension, h.given.width.n_high)
+pub read_into-requires : goal.read_into-requires
+read_into-requires c = record { size = given_size (sym c.in_ok-modulus.ensures.refusal) c.in_ok-modulus.ensures.value }
 
-pub tested_inverse-requires-clause-lengths : goal.tested_inverse-requires-clause-lengths
-tested_inverse-requires-clause-lengths c =
-    let z = or_else_none _ _ (sym c.in-Good.ensures) in
-    ((sized_good z.0).size, room_good z.1)
+pub write_inverse-requires-clause-sound : goal.write_inverse-requires-clause-sound
+write_inverse-requires-clause-sound c = table_sound c.args.tableau.now c.read_into.ensures (sym c.in_ok-tests.ensures)
+
+pub write_inverse-requires-clause-room : goal.write_inverse-requires-clause-room
+write_inverse-requires-clause-room c = rw (← c.tableau_bytes.ensures) (room_good (sym c.in_ok-room.ensures))

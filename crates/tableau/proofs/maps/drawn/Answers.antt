@@ -15,7 +15,7 @@ pub loop-i-preserved : goal.loop-i-preserved
 loop-i-preserved c =
     let a = c.args in
     filled_more _ _ c.loop-i.i _ _ (omega arith)
-    (c.negative-x.ensures ∙ ap (λ (y : ℕ). neg a.d y % a.d) (c.full_commutation-c.ensures ∙ ap (comm a.d (view a.n a.q)) c.column.ensures.value))
+    (c.negative-x.ensures.value ∙ ap (λ (y : ℕ). neg a.d y % a.d) (c.full_commutation.ensures ∙ ap (comm a.d (view a.n a.q)) (rw c.value-m.ensures.value at c.column.ensures.value)))
     (c.full_commutation-z.ensures ∙ ap (comm a.d (view a.n a.q)) c.column-in-loop-i.ensures.value)
     c.with_next-word.ensures c.loop-i.invariant
 

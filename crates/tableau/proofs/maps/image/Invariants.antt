@@ -3,11 +3,11 @@ use Rattle.std.proofs.Common.{◌≡◌, ◌++◌, drop}
 use Rattle.pauli.specs.Inner.View.{view, entries}
 use Rattle.tableau.specs.Tableau.{multiplied, image}
 use Rattle.tableau.specs.Inner.View.{table_view}
-use Rattle.tableau.specs.Inner.Sums.{sums_view, Summed}
+use Rattle.tableau.specs.Inner.Sums.{product_view, Summed}
 use Rattle.tableau.proofs.maps.image.Given as goal
 
 abbrev pub invariant-loop-j : goal.invariant-loop-j
 invariant-loop-j l = record {
-  value : image l.d l.n (table_view l.n l.t) (view l.n l.p) ≡ multiplied l.d l.n (sums_view l.d l.n l.phase.0 l.sums) (drop l.j (table_view l.n l.t)) (drop l.j (entries l.n l.p.v ++ entries l.n l.p.w));
-  summed : Summed l.j l.sums;
+  value : image l.d l.n (table_view l.n l.t) (view l.n l.p) ≡ multiplied l.d l.n (product_view l.d l.n l.product) (drop l.j (table_view l.n l.t)) (drop l.j (entries l.n l.p.v ++ entries l.n l.p.w));
+  summed : Summed l.j l.product;
 }

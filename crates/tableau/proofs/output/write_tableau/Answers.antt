@@ -9,20 +9,15 @@ use Rattle.tableau.proofs.Run.{rows_none, rows_next}
 use Rattle.tableau.proofs.output.write_tableau.Goals as goal
 
 pub loop-r-init : goal.loop-r-init
-loop-r-init c =
-    let a = c.args in
-    let e = c.unit_table-t.ensures in
-    (e.0 ∙ rows_none a.d (row_at a.list.now) (units a.n), e.1)
+loop-r-init c = c.unit_table-t.ensures ∙ rows_none c.args.d (row_at c.args.list.now) (units c.args.n)
 
-pub put_columns-requires-clause-legal : goal.put_columns-requires-clause-legal
-put_columns-requires-clause-legal c =
+pub put_columns-requires : goal.put_columns-requires
+put_columns-requires c =
     let a = c.args in
-    let l = c.loop-r in
-    (ap (legal_row a.d a.n) c.read_row-row.ensures ∙ all_at (legal_row a.d a.n) (row_at a.list.now) (length a.list.now / 8) l.r (omega arith) c.requires.legal, l.invariant.1)
+    record { legal = ap (legal_row a.d a.n) c.read_row-row.ensures ∙ all_at (legal_row a.d a.n) (row_at a.list.now) (length a.list.now / 8) c.loop-r.r (omega arith) c.requires.legal }
 
 pub loop-r-preserved : goal.loop-r-preserved
 loop-r-preserved c =
     let a = c.args in
     let l = c.loop-r in
-    let e = c.put_columns.ensures in
-    (rows_next a.d (row_at a.list.now) l.r (units a.n) l.invariant.0 (e.0 ∙ ap (λ (w : WrittenRow). map (apply a.d (meant w)) (table_view a.n l.t)) c.read_row-row.ensures), e.1)
+    rows_next a.d (row_at a.list.now) l.r (units a.n) l.invariant (c.put_columns.ensures ∙ ap (λ (w : WrittenRow). map (apply a.d (meant w)) (table_view a.n l.t)) c.read_row-row.ensures)

@@ -4,8 +4,8 @@ use Rattle.arith.specs.Bytes.{tab}
 use Rattle.gates.specs.Row.{run}
 use Rattle.gates.specs.Written.{meant, row_at}
 use Rattle.tableau.specs.Tableau.{units}
-use Rattle.tableau.specs.Inner.View.{table_view, Shaped}
+use Rattle.tableau.specs.Inner.View.{table_view}
 use Rattle.tableau.proofs.output.write_tableau.Given as goal
 
 abbrev pub invariant-loop-r : goal.invariant-loop-r
-invariant-loop-r l = (table_view l.n l.t ≡ map (run l.d (map meant (tab (row_at l.list) l.r))) (units l.n)) × Shaped l.t
+invariant-loop-r l = table_view l.n l.t ≡ map (run l.d (map meant (tab (row_at l.list) l.r))) (units l.n)

@@ -11,14 +11,8 @@ pub our_row-row-requires : goal.our_row-row-requires
 our_row-row-requires c =
     let a = c.args in
     let h = c.requires in
-    let l = c.loop-r in (
-      h.0,
-      (
-        h.1.0,
-        ap (legal_row a.d h.1.0) (c.read_row.ensures ∙ l.invariant.after l.r (omega arith))
-            ∙ all_at (legal_row a.d h.1.0) (row_at a.list.now) (length a.list.now / 8) l.r (omega arith) h.1.1,
-      ),
-    )
+    let l = c.loop-r in
+    (h.0, ap (legal_row a.d h.0) (c.read_row.ensures ∙ l.invariant.after l.r (omega arith)) ∙ all_at (legal_row a.d h.0) (row_at a.list.now) (length a.list.now / 8) l.r (omega arith) h.1)
 
 pub loop-r-preserved : goal.loop-r-preserved
 loop-r-preserved c =

@@ -1,5 +1,5 @@
 -- `text::printing::print_column`'s loop. The invariant: the numbers passed are written, each with its comma.
-use Rattle.std.proofs.Common.{◌+◌, ◌*◌, ◌≤◌, ◌-◌}
+use Rattle.std.proofs.Common.{◌+◌, ◌*◌, ◌≤◌}
 use Rattle.arith.specs.Bytes.{numbers_at}
 use Rattle.text.specs.Inner.Prints.{PutsText}
 use Rattle.text.proofs.Sound.{commas}
@@ -7,10 +7,6 @@ use Rattle.text.proofs.printing.print_column.Given as goal
 
 abbrev pub invariant-loop-i : goal.invariant-loop-i
 invariant-loop-i l = record {
-  inside : l.i + 1 ≤ l.m;
   room : l.next ≤ l.at + 6 * l.i;
   puts : PutsText l.initial.out l.at (commas (numbers_at l.b l.k l.i)) l.next l.out;
 }
-
-abbrev pub decreases-loop-i : goal.decreases-loop-i
-decreases-loop-i l = l.m - l.i

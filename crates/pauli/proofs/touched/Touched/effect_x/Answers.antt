@@ -1,6 +1,6 @@
 -- `pauli::touched::Touched::effect_x` meets its contract: the phase in reduced steps. The call that lowers the phase is not named here, so that code with another
 -- sign fails by what it promises.
-use Rattle.std.proofs.Common.{rules, ◌+◌, ◌*◌, ◌%◌, ◌∙◌}
+use Rattle.std.proofs.Common.{rules, ◌+◌, ◌*◌, ◌%◌, ◌∙◌, arith}
 use Rattle.arith.specs.Residues.{neg}
 use Rattle.pauli.proofs.Change.{x_phase}
 use Rattle.pauli.proofs.Numbers.{puts_x}
@@ -11,4 +11,4 @@ returns c i p a e =
     let d = c.args.d in
     let k = c.args.k.0 in
     let lowered = (c.args.self.phase.0 + neg (2 * d) c.doubled-moved.result.0) % (2 * d) in
-    rw c.on_one.ensures (puts_x d k a e (◌∙◌ {b = lowered} (search rules) (rw (c.doubled-moved.ensures, c.scaled.ensures) (x_phase d k c.requires.d_low _ _).same)))
+    rw c.on_one.ensures (puts_x d k a e (◌∙◌ {b = lowered} (search rules) (rw (c.doubled-moved.ensures, c.scaled.ensures.value) (x_phase d k (omega arith) _ _).same)))

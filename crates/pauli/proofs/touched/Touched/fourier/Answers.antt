@@ -1,6 +1,6 @@
 -- `pauli::touched::Touched::fourier` meets its contract: the phase in reduced steps, and an entry of each kind. The call that lowers the phase is not named here,
 -- so that code with another sign fails by what it promises.
-use Rattle.std.proofs.Common.{rules, ◌+◌, ◌*◌, ◌%◌, ◌∙◌}
+use Rattle.std.proofs.Common.{rules, ◌+◌, ◌*◌, ◌%◌, ◌∙◌, arith}
 use Rattle.arith.specs.Residues.{neg}
 use Rattle.pauli.proofs.Change.{x_phase}
 use Rattle.pauli.proofs.Numbers.{puts_f}
@@ -11,5 +11,5 @@ returns c i p a e =
     let d = c.args.d in
     let lowered = (c.args.self.phase.0 + neg (2 * d) c.doubled-moved.result.0) % (2 * d) in
     rw c.on_one.ensures (puts_f d a e
-    (◌∙◌ {b = lowered} (search rules) (rw (c.doubled-moved.ensures, c.times.ensures) (x_phase d c.args.self.vi.0 c.requires.d_low _ _).same))
-    c.negative.ensures)
+    (◌∙◌ {b = lowered} (search rules) (rw (c.doubled-moved.ensures, c.times.ensures) (x_phase d c.args.self.vi.0 (omega arith) _ _).same))
+    c.negative.ensures.value)

@@ -1,5 +1,5 @@
 -- `pauli::touched::Touched::half_turn` meets its contract: the phase as it stands, reduced, and an entry of each kind.
-use Rattle.std.proofs.Common.{sym, ◌∙◌}
+use Rattle.std.proofs.Common.{sym, ◌∙◌, arith}
 use Rattle.pauli.proofs.Change.{half_turn_phase}
 use Rattle.pauli.proofs.Numbers.{puts_half_turn}
 use Rattle.pauli.proofs.touched.Touched.half_turn.Goals as goal
@@ -7,4 +7,4 @@ use Rattle.pauli.proofs.touched.Touched.half_turn.Goals as goal
 pub returns : goal.returns
 returns c =
     let d = c.args.d in
-    rw c.on_one.ensures (puts_half_turn d (c.within.ensures ∙ sym (half_turn_phase d _ _ _ c.requires.d_low).same) c.negative.ensures c.negative-2.ensures)
+    rw c.on_one.ensures (puts_half_turn d (c.within.ensures ∙ sym (half_turn_phase d _ _ _ (omega arith)).same) c.negative.ensures.value c.negative-2.ensures.value)

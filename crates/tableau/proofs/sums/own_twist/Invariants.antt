@@ -1,8 +1,0 @@
--- The sum is the dot product of the entries passed, at most 65,535·1,023 for each.
-use Rattle.std.proofs.Common.{◌≡◌, ◌+◌, ◌*◌, ◌≤◌, get_or}
-use Rattle.arith.specs.Bytes.{tab}
-use Rattle.pauli.specs.Pauli.{dot}
-use Rattle.tableau.proofs.sums.own_twist.Given as goal
-
-abbrev pub invariant-loop-i : goal.invariant-loop-i
-invariant-loop-i l = (l.sum ≡ dot (tab (λ j. get_or l.c (17 + j) 0) l.i) (tab (λ j. get_or l.c (1 + j) 0) l.i)) × (l.sum ≤ 67042305 * l.i)
