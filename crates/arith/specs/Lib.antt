@@ -4,5 +4,6 @@ pub mod Gcd
 pub mod Units
 pub mod Bytes
 pub mod Refusals
+pub mod Texts
 pub mod Answers
 pub mod Calls

@@ -1,32 +1,33 @@
-// The checks of refusals 1 to 5, which answer a Result: the first that refuses ends a call.
-ghost use Rattle.std.specs.Prelude.{◌≡◌, ◌<◌};
-ghost use Rattle.arith.specs.Refusals.{refusal_number, number_of, or_else, size_of, whole_of, list_size_of, room_of, range_of};
+// The checks of refusals 3 to 5, which answer a Result: the first that refuses ends a call.
+ghost use Rattle.std.specs.Prelude.{◌≡◌, ◌<◌, Some};
+ghost use Rattle.arith.specs.Refusals.{refusal_number, number_of, unless_holds, or_else, size_of, whole_of, list_size_of, room_of, range_of};
 ghost use Rattle.arith.specs.Answers.{answer_of};
+ghost use Rattle.arith.specs.Texts.{refusal_text};
 
 use std::error::Error;
 use std::fmt;
 
-// The refusals of document 01's table.
+// The refusals of document 01's table, by their numbers. In comments such a number stands for the refusal.
 #[derive(Clone, Copy, Debug, PartialEq, Eq)]
 pub enum Refusal {
     // d below 2 or above 1,024
-    Dimension,
+    Dimension = 1,
     // n is 0 or above 16
-    Width,
+    Width = 2,
     // an input isn't as long as its layout says; a list isn't whole rows or exceeds 4,096; a batch isn't whole Paulis or exceeds 512
-    Length,
+    Length = 3,
     // an output is shorter than the full answer, or for synthesis than 40n² + 48n bytes
-    Room,
+    Room = 4,
     // a v, w or residue is d or more, or a phase 2d or more
-    Range,
+    Range = 5,
     // a row isn't legal
-    Row,
+    Row = 6,
     // a commutation number of two columns is wrong
-    Pairing,
+    Pairing = 7,
     // pairing holds, a column's sum is odd
-    Parity,
+    Parity = 8,
     // a line breaks the text program's layout
-    Text,
+    Text = 9,
 }
 
 // The number of a refusal.
@@ -34,21 +35,14 @@ impl From<Refusal> for u16 {
     ghost from_gives = { λ k r. r ≡ refusal_number k };
 
     fn from(refusal: Refusal) -> u16 {
-        match refusal {
-            Refusal::Dimension => 1,
-            Refusal::Width => 2,
-            Refusal::Length => 3,
-            Refusal::Room => 4,
-            Refusal::Range => 5,
-            Refusal::Row => 6,
-            Refusal::Pairing => 7,
-            Refusal::Parity => 8,
-            Refusal::Text => 9,
-        }
+        refusal as u16
     }
 }
 
+// Written by hand: what the derive of the library's `thiserror` writes has no contract, and `output` says the text.
 impl fmt::Display for Refusal {
+    ghost output = { λ refusal. Some (refusal_text refusal) };
+
     fn fmt<W: fmt::Write>(&self, f: &mut fmt::Formatter<W>) -> fmt::Result {
         f.write_str(match self {
             Refusal::Dimension => "the dimension is below 2 or above 1,024",
@@ -88,24 +82,25 @@ impl From<Result<u16, Refusal>> for Answer {
     }
 }
 
-// The number of what a check or a call answers.
+// The number of what a check or a call answers. A function, since an impl of From for u16 and a Result, both of the library, is refused.
 pub fn number(found: Result<(), Refusal>) -> u16
     ensures { result ≡ number_of found }
 {
-    match found {
-        Ok(()) => 0,
-        Err(refusal) => refusal.into(),
-    }
+    found.err().map_or(0, u16::from)
+}
+
+// The refusal, unless the test holds.
+pub fn unless_holds(refusal: Refusal, test: bool) -> Result<(), Refusal>
+    ensures { number_of result ≡ unless_holds refusal test }
+{
+    if test { Ok(()) } else { Err(refusal) }
 }
 
 #[tactic(auto, unfolding(crate::specs::Refusals::size_of))]
 pub fn size(want: usize, have: usize) -> Result<(), Refusal>
     ensures { number_of result ≡ size_of want have }
 {
-    if have != want {
-        return Err(Refusal::Length);
-    }
-    Ok(())
+    unless_holds(Refusal::Length, have == want)
 }
 
 // Whole items of `one` bytes, at most `most` of them.
@@ -114,10 +109,7 @@ pub fn whole(one: usize, most: usize, have: usize) -> Result<(), Refusal>
     requires { 0 < one }
     ensures { number_of result ≡ whole_of one most have }
 {
-    if have % one != 0 || most < have / one {
-        return Err(Refusal::Length);
-    }
-    Ok(())
+    unless_holds(Refusal::Length, have % one == 0 && have / one <= most)
 }
 
 // A list: whole rows of 8 bytes, at most 4,096 of them.
@@ -132,10 +124,7 @@ pub fn list_size(have: usize) -> Result<(), Refusal>
 pub fn room(want: usize, have: usize) -> Result<(), Refusal>
     ensures { number_of result ≡ room_of want have }
 {
-    if have < want {
-        return Err(Refusal::Room);
-    }
-    Ok(())
+    unless_holds(Refusal::Room, want <= have)
 }
 
 // 3 of an input, then 4 of an output.
@@ -150,8 +139,5 @@ pub fn lent(want: usize, have: usize, answer: usize, space: usize) -> Result<(),
 pub fn range(bound: u16, x: u16) -> Result<(), Refusal>
     ensures { number_of result ≡ range_of bound x }
 {
-    if bound <= x {
-        return Err(Refusal::Range);
-    }
-    Ok(())
+    unless_holds(Refusal::Range, x < bound)
 }

@@ -1,5 +1,7 @@
-// What the qudits are: the modulus d of their residues, and their number n. Each is made by the check of its refusal alone, so that whoever holds one need not test it again.
-// Where a function takes both, they are two arguments: tried, a struct of the two is not copied by the borrow checker, since both have a model, and could be used once.
+// What the qudits are: the modulus d of their residues, and their number n. Each is made by the check of its refusal, or of a number that is known to be in range, so that whoever holds one need not test it again.
+// Where a function takes both, they are two arguments and no struct. Such a struct can be had (tried: it is copied if it has a model of its own), but of the functions that take d or n about 40 take both, 50 d alone and 20 n alone:
+// most calls would take it apart, and contracts would say s.d and s.n for d and n.
+// They are two types and not one with a parameter: the number (u16, usize), the bounds, the refusal and so every clause differ, and the shape of three short functions is all that they would share.
 ghost use Rattle.std.specs.Prelude.{◌≡◌, ◌≤◌, ℕ, IfOk};
 ghost use Rattle.arith.specs.Refusals.{Dimension, number_of, or_else, dimension_of, width_of, given_of, list_size_of};
 
@@ -35,7 +37,7 @@ impl Modulus {
         Ok(Modulus::known(d))
     }
 
-    // A number that is known to be in range, for a caller that need not test it.
+    // A number that is known to be in range, for a caller that need not test it: one that had the fact is asked no more.
     pub fn known(d: u16) -> Modulus
         requires { Dimension d }
         ensures { result ≡ d }

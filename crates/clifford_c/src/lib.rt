@@ -1,4 +1,5 @@
 // The C interface: an export for each call of the crate clifford, whose Result is handed on in C's layout: a refusal's number, or 0, and beside it what was asked. include/clifford.h has the prototypes.
+// So the thirteen calls stand twice: a static library exports the entries of its own crate alone, and no crate can use a static library, as a caller in Rattle uses clifford.
 // A slice passes as a pointer and a length.
 
 #![tactic(auto)]

@@ -18,9 +18,7 @@ fn read_input<R: Read>(reader: &mut R, buffer: &mut [u8]) -> Option<usize>
 {
     let mut done = 0;
     while done < buffer.len() {
-        let Ok(more) = reader.read(&mut buffer[done..]) else {
-            return None;
-        };
+        let more = reader.read(&mut buffer[done..]).ok()?;
         if more == 0 {
             return Some(done);
         }

@@ -7,14 +7,17 @@ use Prim.Native.Nat.{ℕ, zero, suc, ◌+◌, ◌*◌, ◌-◌, ◌/◌, ◌≤�
 use native.Mathlib.Nat.{le_of_suc-le-suc, not-suc-le-zero}
 use native.Mathlib.Omega.{arith}
 use lib.ListN.{length, get_or, get_or-append}
+use Rattle.std.proofs.lemmas.List.{get_or-append-add, length-append}
 use lib.Dec.{leb, eqb}
 use borrow.Author.Tests.{leb-true, eqb-true, eqb-false, not-true, le-leb, eq-eqb, ne_eqb}
 use Rattle.arith.specs.Gcd.{gcd}
 use Rattle.arith.specs.Units.{IsUnit, inverse_of}
 use Rattle.arith.specs.Bytes.{tab, number_at}
-use Rattle.arith.proofs.Bytes.{tab_more, tab_ext, tab_list, number_bytes, bytes_length}
+use Rattle.arith.proofs.Bytes.{tab_none, tab_more, tab_cons, tab_ext, tab_list, number_bytes, bytes_length}
 use Rattle.arith.proofs.Cases.{by_eq}
 use Rattle.arith.proofs.Refusals.{both_held}
+use Rattle.gates.specs.declared.kind.Kind.TheVariants as code
+use Rattle.gates.specs.Kind.{kind_number, NoKind}
 use Rattle.gates.specs.Row.{Row, F, S, A, M, X, Z, C, W, OneQudit, TwoQudits, Legal, AllLegal, none, more, undo}
 use Rattle.gates.specs.Written.{WrittenRow, with_power, on_one, on_two, written, row_of_kind, meant, between, highest, legal_power, takes_two, legal_second, legal_row, all_rows, all_legal_rows, row_at, list_rows, rows_of, row_numbers, list_numbers, encode_rows}
 
@@ -48,20 +51,17 @@ known d (suc (suc (suc (suc (suc (suc (suc zero))))))) h = kind_c
 known d (suc (suc (suc (suc (suc (suc (suc (suc zero)))))))) h = kind_w
 known d (suc (suc (suc (suc (suc (suc (suc (suc (suc kind))))))))) h = absurd (not-suc-le-zero h)
 
--- any other number is no kind: what the last arm of a match on all of them tells
-abbrev pub NoKind : ℕ → Type 0
-NoKind kind = (((((((Unit {0} × (kind ≢ 1)) × (kind ≢ 2)) × (kind ≢ 3)) × (kind ≢ 4)) × (kind ≢ 5)) × (kind ≢ 6)) × (kind ≢ 7)) × (kind ≢ 8)
-
-pub no_kind : (d kind : ℕ) → NoKind kind → highest d kind ≡ 0
+-- a number that no kind has
+pub no_kind : (d kind : ℕ) → NoKind kind_number kind → highest d kind ≡ 0
 no_kind d zero z = refl
-no_kind d (suc zero) z = absurd (z.0.0.0.0.0.0.0.1 refl)
-no_kind d (suc (suc zero)) z = absurd (z.0.0.0.0.0.0.1 refl)
-no_kind d (suc (suc (suc zero))) z = absurd (z.0.0.0.0.0.1 refl)
-no_kind d (suc (suc (suc (suc zero)))) z = absurd (z.0.0.0.0.1 refl)
-no_kind d (suc (suc (suc (suc (suc zero))))) z = absurd (z.0.0.0.1 refl)
-no_kind d (suc (suc (suc (suc (suc (suc zero)))))) z = absurd (z.0.0.1 refl)
-no_kind d (suc (suc (suc (suc (suc (suc (suc zero))))))) z = absurd (z.0.1 refl)
-no_kind d (suc (suc (suc (suc (suc (suc (suc (suc zero)))))))) z = absurd (z.1 refl)
+no_kind d (suc zero) z = absurd (z code.F refl)
+no_kind d (suc (suc zero)) z = absurd (z code.S refl)
+no_kind d (suc (suc (suc zero))) z = absurd (z code.A refl)
+no_kind d (suc (suc (suc (suc zero)))) z = absurd (z code.M refl)
+no_kind d (suc (suc (suc (suc (suc zero))))) z = absurd (z code.X refl)
+no_kind d (suc (suc (suc (suc (suc (suc zero)))))) z = absurd (z code.Z refl)
+no_kind d (suc (suc (suc (suc (suc (suc (suc zero))))))) z = absurd (z code.C refl)
+no_kind d (suc (suc (suc (suc (suc (suc (suc (suc zero)))))))) z = absurd (z code.W refl)
 no_kind d (suc (suc (suc (suc (suc (suc (suc (suc (suc kind))))))))) z = refl
 
 kind_bounds : {kind : ℕ} → Kind kind → (1 ≤ kind) × (kind ≤ 8)
@@ -358,6 +358,53 @@ module _ (test : WrittenRow → Bool) where
 -- the row that is read at a place of a legal list is legal
 pub legal_at : (d n : ℕ) (list : List ℕ) (r : ℕ) (w : WrittenRow) → w ≡ row_at list r → r < length list / 8 → all_legal_rows d n (list_rows list) ≡ true → legal_row d n w ≡ true
 legal_at d n list r w e h legal = ap (legal_row d n) e ∙ all_at (legal_row d n) (row_at list) (length list / 8) r h legal
+
+-- ---- the rows of a list in bytes: those of 8 bytes and what follows them, and of fewer than 8
+number_front : (x t : List ℕ) (k : ℕ) → 2 * k + 1 < length x → number_at (x ++ t) k ≡ number_at x k
+unfolding number_at
+number_front x t k h = ap₂ (λ (a b : ℕ). a + 256 * b) (get_or-append x t 0 (2 * k) (omega arith)) (get_or-append x t 0 (2 * k + 1) h)
+
+number_after : (x t : List ℕ) (k j : ℕ) → length x ≡ 2 * j → number_at (x ++ t) (j + k) ≡ number_at t k
+unfolding number_at
+number_after x t k j e = ap₂ (λ (a b : ℕ). a + 256 * b) (place (2 * k) (2 * (j + k)) (omega arith)) (place (2 * k + 1) (2 * (j + k) + 1) (omega arith))
+  where
+    place : (i n : ℕ) → n ≡ length x + i → get_or (x ++ t) n 0 ≡ get_or t i 0
+    place i n h = rw h (get_or-append-add x t i 0)
+
+row_front : (x t : List ℕ) → length x ≡ 8 → row_at (x ++ t) 0 ≡ row_at x 0
+row_front x t e = row_path (number_front x t 0 (omega arith)) (number_front x t 1 (omega arith)) (number_front x t 2 (omega arith)) (number_front x t 3 (omega arith))
+
+row_after : (x t : List ℕ) (r : ℕ) → length x ≡ 8 → row_at (x ++ t) (suc r) ≡ row_at t r
+row_after x t r e = row_path (number (4 * r) (omega arith)) (number (4 * r + 1) (omega arith)) (number (4 * r + 2) (omega arith)) (number (4 * r + 3) (omega arith))
+  where
+    number : (k : ℕ) {m : ℕ} → m ≡ 4 + k → number_at (x ++ t) m ≡ number_at t k
+    number k h = rw h (number_after x t k 4 e)
+
+pub rows_front : (x t : List ℕ) → length x ≡ 8 → list_rows (x ++ t) ≡ row_at x 0 ∷ list_rows t
+rows_front x t e =
+    let n : length (x ++ t) / 8 ≡ suc (length t / 8) = omega (arith, length-append x t, e) in
+    ap (tab (row_at (x ++ t))) n
+    ∙ tab_cons (row_at (x ++ t)) (length t / 8)
+    ∙ ap₂ (λ (w : WrittenRow) (ws : List WrittenRow). w ∷ ws) (row_front x t e) (tab_ext (λ r. row_at (x ++ t) (suc r)) (row_at t) (length t / 8) (λ r h. row_after x t r e))
+
+pub rows_none : (s : List ℕ) → length s < 8 → list_rows s ≡ []
+rows_none s h = let n : length s / 8 ≡ 0 = omega arith in ap (tab (row_at s)) n ∙ tab_none (row_at s)
+
+-- a loop over the bytes, row by row: the first row of those left passes, or fails, or there is none
+module _ (test : WrittenRow → Bool) where
+  all_front : (x t : List ℕ) {b : Bool} → length x ≡ 8 → test (row_at x 0) ≡ b → all_rows test (list_rows (x ++ t)) ≡ (b && all_rows test (list_rows t))
+  unfolding all_rows
+  all_front x t e f = ap (all_rows test) (rows_front x t e) ∙ ap (λ (c : Bool). c && all_rows test (list_rows t)) f
+
+  pub all_next : {s : List ℕ} (x t : List ℕ) → s ≡ x ++ t → length x ≡ 8 → test (row_at x 0) ≡ true → all_rows test (list_rows s) ≡ all_rows test (list_rows t)
+  all_next x t g e f = rw g (all_front x t e f)
+
+  pub all_fails : {s : List ℕ} (x t : List ℕ) → s ≡ x ++ t → length x ≡ 8 → test (row_at x 0) ≡ false → all_rows test (list_rows s) ≡ false
+  all_fails x t g e f = rw g (all_front x t e f)
+
+  pub all_end : (s : List ℕ) → length s < 8 → all_rows test (list_rows s) ≡ true
+  unfolding all_rows
+  all_end s h = ap (all_rows test) (rows_none s h)
 
 -- ---- encoding
 list_numbers_at : (ws : List WrittenRow) (w₀ : WrittenRow) (r o : ℕ) → r < length ws → o < 4 → get_or (list_numbers ws) (4 * r + o) 0 ≡ get_or (row_numbers (get_or ws r w₀)) o 0

@@ -1,31 +1,30 @@
-// The public calls on lists.
+// The public calls on lists. A legal list is taken out of its result by `match`: tried, `?` gets no proof where the value holds a reference beside d and n, which have a model.
 ghost use Rattle.std.specs.Prelude.{◌≡◌, length, IfOk};
 ghost use Rattle.arith.specs.Refusals.{number_of};
 ghost use Rattle.arith.specs.Answers.{Answered, Written, answer_of};
 ghost use Rattle.gates.specs.Calls.{run_refusal, run_bytes, ticks_refusal, ticks_of};
 
+use crate::lists::LegalList;
 use arith::checks::Refusal;
-use arith::modulus::{Modulus, Width, given_list};
+use arith::modulus::given_list;
 use pauli::Pauli;
 
 // 1, 2, then 3 of the list and of the Pauli, 4 of an output of so many bytes, 5 of the Pauli, 6 of the list.
 #[tactic(auto, using(arith::proofs::Refusals::or_else_none, arith::proofs::Refusals::size_good))]
-fn run_check(
+fn run_check<'a>(
     d: u16,
     n: u16,
-    list: &[u8],
+    list: &'a [u8],
     p: &[u8],
     room: usize,
-) -> Result<(Modulus, Width), Refusal>
+) -> Result<LegalList<'a>, Refusal>
     ensures refusal { number_of result ≡ run_refusal d n list.now p.now room }
-    ensures value { IfOk result (λ both. both ≡ (d, n)) }
+    ensures value { IfOk result (λ l. (l.bytes.now ≡ list.now) × ((l.d ≡ d) × (l.n ≡ n))) }
 {
-    let both = given_list(d, n, list.len())?;
+    let (modulus, width) = given_list(d, n, list.len())?;
     pauli::calls::lent(n, p.len(), room)?;
-    let (modulus, width) = both;
     Pauli::read(p, 0, width).range(modulus, width)?;
-    crate::lists::list_legal(list, modulus, width.value())?;
-    Ok(both)
+    LegalList::new(list, modulus, width)
 }
 
 // A list run on a Pauli.
@@ -33,9 +32,12 @@ fn run_check(
 pub fn run(d: u16, n: u16, list: &[u8], p: &[u8], out: &mut [u8]) -> Result<(), Refusal>
     ensures { Written (run_refusal d n list.now p.now (length out.old)) (run_bytes d n list.now p.now) out.old out.new (number_of result) }
 {
-    let (modulus, width) = run_check(d, n, list, p, out.len())?;
-    let start = Pauli::read(p, 0, width);
-    crate::lists::run_list(list, start, modulus, width).write(out, 0, width);
+    let rows = match run_check(d, n, list, p, out.len()) {
+        Ok(rows) => rows,
+        Err(refusal) => return Err(refusal),
+    };
+    let start = Pauli::read(p, 0, rows.n);
+    rows.run(start).write(out, 0, rows.n);
     Ok(())
 }
 
@@ -43,8 +45,8 @@ pub fn run(d: u16, n: u16, list: &[u8], p: &[u8], out: &mut [u8]) -> Result<(), 
 fn ticks_check(d: u16, n: u16, list: &[u8]) -> Result<(), Refusal>
     ensures { number_of result ≡ ticks_refusal d n list.now }
 {
-    let (modulus, width) = given_list(d, n, list.len())?;
-    crate::lists::list_legal(list, modulus, width.value())
+    let (d, n) = given_list(d, n, list.len())?;
+    crate::lists::list_legal(list, d, n.value())
 }
 
 // The ticks of a list.

@@ -1,10 +1,8 @@
 // The kinds of gate rows.
 ghost use Rattle.std.specs.Prelude.{◌≡◌, MatchOption};
 ghost use Rattle.gates.specs.Kind.{kind_number, kind_letter, NumberedKind, NoKind};
-ghost use Rattle.gates.specs.Written.{highest, takes_two};
 
 use arith::checks::Refusal;
-use arith::modulus::Modulus;
 
 // A kind, by the number that it has in bytes.
 #[derive(Clone, Copy, Debug, PartialEq, Eq)]
@@ -48,21 +46,8 @@ impl TryFrom<u16> for Kind {
     }
 }
 
+// Letters have methods and no From and TryFrom: a u8 doesn't say that it is a letter, and a TryFrom<u8> would differ from the number's by the width of the integer alone.
 impl Kind {
-    // The highest legal power.
-    pub fn highest_power(self, d: Modulus) -> u16
-        ensures { result ≡ highest d (kind_number self) }
-    {
-        crate::highest_power(self as u16, d)
-    }
-
-    // Whether it takes a second qudit.
-    pub fn takes_two(self) -> bool
-        ensures { result ≡ takes_two (kind_number self) }
-    {
-        crate::takes_two(self as u16)
-    }
-
     // Its letter in text.
     pub fn letter(self) -> u8
         ensures { result ≡ kind_letter self }

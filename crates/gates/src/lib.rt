@@ -22,6 +22,7 @@ pub mod kind;
 pub mod lists;
 
 // A gate row as it is written: the qudits count from 1, and the second is 0 where the kind takes one.
+// That a row is legal is a clause and no type of row: `undo` and `act` promise their result for every n at which it is legal, which a type that holds d and n would narrow.
 // Its kind is a number and no `Kind`, since bytes from C hold any number there: whether it is that of a kind is part of what `legal` judges.
 #[derive(Clone, Copy)]
 pub struct Row {
@@ -32,6 +33,7 @@ pub struct Row {
 }
 
 // A legal row with the inverse of its power where its kind is M, computed once, since a row is applied to many Paulis.
+// It holds no d, with `InverseRight` as its own fact: who acts has d for the effect anyway, and would have to know that both are the same.
 #[derive(Clone, Copy)]
 pub struct Ready {
     pub row: Row,
@@ -42,10 +44,10 @@ pub struct Ready {
 fn within(low: usize, high: usize, x: usize) -> bool
     ensures { result ≡ between low high x }
 {
-    low <= x && x <= high
+    (low..=high).contains(&x)
 }
 
-// The highest legal power of a kind, by its number: 0 where no kind has it. It is looked up: tried, a match on the kind, whose jump is guessed wrongly for most rows, misses the bar of speed.
+// The highest legal power of a kind, by its number: 0 where no kind has it. It is looked up: tried, with a match on the kind, whose jump the processor guesses wrongly for most rows, ticks take nearly twice as long.
 pub fn highest_power(kind: u16, d: Modulus) -> u16
     ensures { result ≡ highest d kind }
 {
@@ -83,7 +85,7 @@ impl Row {
             kind: kind.into(),
             first: (i as u16) + 1,
             second: 0,
-            power: power,
+            power,
         }
     }
 
@@ -96,7 +98,7 @@ impl Row {
             kind: kind.into(),
             first: (i as u16) + 1,
             second: (j as u16) + 1,
-            power: power,
+            power,
         }
     }
 
@@ -179,7 +181,7 @@ impl Row {
         Ready { row: self, inverse }
     }
 
-    // What the row makes of the Pauli. Its kind is asked by one test of its number after the other: tried, a match on the kind, whose jump takes longer where a list is run again, misses the bar of speed.
+    // What the row makes of the Pauli. Its kind is asked by one test of its number after the other: tried, with a match on the kind, whose jump takes longer, a list that is run again takes a quarter longer.
     #[tactic(auto, using(crate::proofs::Written::legal_facts))]
     pub fn apply(self, p: Pauli, d: Modulus, n: Width) -> Pauli
         requires legal { legal_row d n (view_row self) ≡ true }
@@ -217,7 +219,7 @@ impl Row {
 }
 
 // What a row makes of the numbers that it touches: a method for the kinds on one qudit and one for those on two, each for a loop over columns of its own.
-// Those two ask the kind's number by one test after the other, as `apply` does: tried, a match on the kind, whose jump takes longer in such a loop, misses the bar of speed.
+// Those two ask the kind's number by one test after the other, as `apply` does: tried, with a match on the kind the jump takes longer in such a loop too.
 impl Ready {
     // What the row makes of the numbers that it touches.
     pub fn act(self, t: Touched, d: Modulus) -> Touched

@@ -1,15 +1,17 @@
 -- The first n entries of the code's arrays, as tables: one law for each kind of loop over them. Assumes nothing.
 use mathlib.Core.Path.{◌≡◌, refl, sym, ap, ap₂, ◌∙◌}
+use mathlib.Core.Bool.{cond}
 use mathlib.Core.List.{List, ◌∷◌, ◌++◌, []}
 use Prim.Native.Nat.{ℕ, zero, suc, ◌+◌, ◌*◌, ◌%◌, ◌<◌, ◌≤◌}
 use native.Mathlib.Numerals.{add-one}
 use native.Mathlib.Omega.{arith}
+use lib.Dec.{eqb}
 use lib.ListN.{length, get_or, set, replicate, length-set, length-replicate}
 use lib.Seq.{get_or-set_same, get_or-set_other, ext_get_or}
 use Rattle.arith.specs.Bytes.{tab}
 use Rattle.arith.specs.declared.residue.Residue.{Residue}
 use Rattle.arith.proofs.Bytes.{tab_none, tab_more, tab_ext, tab_length, tab_at}
-use Rattle.arith.proofs.Cases.{by_eq}
+use Rattle.arith.proofs.Cases.{by_eq, eqb_case}
 use Rattle.pauli.specs.Pauli.{dot, plus}
 use Rattle.pauli.specs.Support.{marks, word_of}
 use Rattle.pauli.specs.Inner.View.{at, entries}
@@ -29,37 +31,41 @@ at_same xs i x h = ap (λ (r : Residue). r.0) (get_or-set_same xs i x (record { 
 at_other : (xs : List Residue) (i j : ℕ) (x : Residue) → (j ≡ i → ⊥) → at (set xs i x) j ≡ at xs j
 at_other xs i j x ne = ap (λ (r : Residue). r.0) (get_or-set_other xs i j x (record { 0 = 0 }) ne)
 
--- a loop that fills an array: after the store of f i at i
-pub fill_more : (f : ℕ → ℕ) (xs : List Residue) (i : ℕ) (x : Residue) → i < length xs → x.0 ≡ f i → entries i xs ≡ tab f i → entries (i + 1) (set xs i x) ≡ tab f (i + 1)
-fill_more f xs i x h e p = tab_more (at (set xs i x)) i ∙ ap₂ (λ (l : List ℕ) (y : ℕ). l ++ (y ∷ [])) (same ∙ p) (at_same xs i x h ∙ e) ∙ sym (tab_more f i)
-  where
-    same : entries i (set xs i x) ≡ entries i xs
-    same = tab_ext (at (set xs i x)) (at xs) i (λ j l. at_other xs i j x (λ q. omega arith))
+-- a loop that fills an array: after the store of x at i, those before i are as they were, and f i stands there
+fill_before : (xs : List Residue) (i : ℕ) (x : Residue) → entries i (set xs i x) ≡ entries i xs
+fill_before xs i x = tab_ext (at (set xs i x)) (at xs) i (λ j l. at_other xs i j x (λ q. omega arith))
 
--- a loop that fills two arrays of 16 and makes their support word: those before place i hold f and g, and the word is theirs
-pub record Filled (f g : ℕ → ℕ) (i : ℕ) (v w : List Residue) (word : ℕ) : Type 0 where
+pub fill_more : (f : ℕ → ℕ) (xs : List Residue) (i : ℕ) (x : Residue) → i < length xs → x.0 ≡ f i → entries i xs ≡ tab f i → entries (i + 1) (set xs i x) ≡ tab f (i + 1)
+fill_more f xs i x h e p = tab_more (at (set xs i x)) i ∙ ap₂ (λ (l : List ℕ) (y : ℕ). l ++ (y ∷ [])) (fill_before xs i x ∙ p) (at_same xs i x h ∙ e) ∙ sym (tab_more f i)
+
+-- a loop that fills two arrays of 16 and makes their support word: what those before place i hold, whatever f and g the entries are given by, and the word is theirs
+pub record Filled (Given : (ℕ → ℕ) → (ℕ → ℕ) → Type 0) (i : ℕ) (v w : List Residue) (word : ℕ) : Type 0 where
   pub v_places : length v ≡ 16
   pub w_places : length w ≡ 16
-  pub v_filled : entries i v ≡ tab f i
-  pub w_filled : entries i w ≡ tab g i
-  pub word_made : word ≡ word_of (marks (tab f i) (tab g i))
+  pub v_filled : (f g : ℕ → ℕ) → Given f g → entries i v ≡ tab f i
+  pub w_filled : (f g : ℕ → ℕ) → Given f g → entries i w ≡ tab g i
+  pub word_made : word ≡ word_of (marks (entries i v) (entries i w))
 
-pub filled_none : (f g : ℕ → ℕ) {v w : List Residue} → length v ≡ 16 → length w ≡ 16 → Filled f g 0 v w 0
-filled_none f g h k = record { v_places = h; w_places = k; v_filled = tab_none _ ∙ sym (tab_none f); w_filled = tab_none _ ∙ sym (tab_none g); word_made = sym (word_none f g) }
+module _ {Given : (ℕ → ℕ) → (ℕ → ℕ) → Type 0} where
+  pub filled_none : {v w : List Residue} → length v ≡ 16 → length w ≡ 16 → Filled Given 0 v w 0
+  filled_none h k = record { v_places = h; w_places = k; v_filled = λ f g s. tab_none _ ∙ sym (tab_none f); w_filled = λ f g s. tab_none _ ∙ sym (tab_none g); word_made = sym (word_none _ _) }
 
-pub filled_more : (f g : ℕ → ℕ) (i : ℕ) {v w : List Residue} {word next : ℕ} (x z : Residue) → i < 16 → x.0 ≡ f i → z.0 ≡ g i → Joins word i x.0 z.0 next
-    → Filled f g i v w word → Filled f g (i + 1) (set v i x) (set w i z) next
-filled_more f g i {v} {w} x z l e k m h = record {
-  v_places = simp length-set h.v_places;
-  w_places = simp length-set h.w_places;
-  v_filled = fill_more f v i x (omega (arith, h.v_places)) e h.v_filled;
-  w_filled = fill_more g w i z (omega (arith, h.w_places)) k h.w_filled;
-  word_made = word_next f g i x.0 z.0 e k h.word_made m;
-}
+  pub filled_more : (i : ℕ) {v w : List Residue} {word next : ℕ} (x z : Residue) → i < 16 → ((f g : ℕ → ℕ) → Given f g → (x.0 ≡ f i) × (z.0 ≡ g i)) → Joins word i x.0 z.0 next
+      → Filled Given i v w word → Filled Given (i + 1) (set v i x) (set w i z) next
+  filled_more i {v} {w} x z l e m h =
+      let k : i < length v = omega (arith, h.v_places) in
+      let j : i < length w = omega (arith, h.w_places) in
+      record {
+        v_places = simp length-set h.v_places;
+        w_places = simp length-set h.w_places;
+        v_filled = λ f g s. fill_more f v i x k (e f g s).0 (h.v_filled f g s);
+        w_filled = λ f g s. fill_more g w i z j (e f g s).1 (h.w_filled f g s);
+        word_made = word_next (at (set v i x)) (at (set w i z)) i x.0 z.0 (sym (at_same v i x k)) (sym (at_same w i z j)) (h.word_made ∙ ap word_of (sym (ap₂ marks (fill_before v i x) (fill_before w i z)))) m;
+      }
 
--- the word is that of the arrays
-pub filled_word : {f g : ℕ → ℕ} {i word : ℕ} {v w : List Residue} → Filled f g i v w word → word ≡ word_of (marks (entries i v) (entries i w))
-filled_word h = h.word_made ∙ ap word_of (sym (ap₂ marks h.v_filled h.w_filled))
+  -- the word is that of the arrays
+  pub filled_word : {i word : ℕ} {v w : List Residue} → Filled Given i v w word → word ≡ word_of (marks (entries i v) (entries i w))
+  filled_word h = h.word_made
 
 -- one entry set, of the array and of the list that it stands for
 pub entries_set : (n : ℕ) (xs : List Residue) (i : ℕ) (x : Residue) → i < length xs → entries n (set xs i x) ≡ set (entries n xs) i x.0
@@ -72,6 +78,10 @@ entries_set n xs i x h = ext_get_or 0 (entries n (set xs i x)) (set (entries n x
     at_each j l = entry (set xs i x) (inside l) ∙ by_eq j i
         (λ e. rw e (at_same xs i x h ∙ sym (get_or-set_same (entries n xs) i x.0 0 (omega (arith, inside l, tab_length (at xs) n)))))
         (λ ne. at_other xs i j x ne ∙ sym (entry xs (inside l)) ∙ sym (get_or-set_other (entries n xs) i j x.0 0 ne))
+
+-- the same, entry by entry
+pub set_tab : (n : ℕ) (xs : List Residue) (i : ℕ) (x : Residue) → i < length xs → tab (λ p. cond (eqb p i) x.0 (at xs p)) n ≡ set (entries n xs) i x.0
+set_tab n xs i x h = tab_ext _ _ n (λ p l. eqb_case (λ b. cond b x.0 (at xs p) ≡ at (set xs i x) p) p i (λ e. rw e (sym (at_same xs i x h))) (λ ne. sym (at_other xs i p x ne))) ∙ entries_set n xs i x h
 
 -- ---- zeros
 pub tab_zero : (f : ℕ → ℕ) (n : ℕ) → ((i : ℕ) → f i ≡ 0) → tab f n ≡ replicate n 0

@@ -1,4 +1,5 @@
-// Loops over the entries of a Pauli: the first n of an array of 16. They go over places, since they read two arrays at a time, or write one.
+// Loops over the entries of a Pauli: the first n of an array of 16.
+// Two arrays are read by places. Tried in both loops, `a[..m].iter().zip(&b[..m])`: no plainer, a line more for m and some eight laws more, and a commutation number on 16 qudits takes 1.03 of the time. Of a chain that ends in `sum` or `fold` the check finds neither the bound nor the result.
 ghost use Rattle.std.specs.Prelude.{◌≡◌, ℕ, ◌+◌, ◌*◌, ◌≤◌, ◌<◌, get_or};
 ghost use Rattle.arith.specs.Bytes.{tab};
 ghost use Rattle.arith.specs.Refusals.{number_of, or_else};
@@ -10,21 +11,14 @@ use arith::checks::Refusal;
 use arith::modulus::{Modulus, Width};
 use arith::residue::{Modular, Residue};
 
-// The product of two entries, not reduced.
-fn whole_product(x: Residue, y: Residue) -> u64
-    ensures { (result ≡ x.0 * y.0) × (result < 4294967296) }
-{
-    (x.value() as u64) * (y.value() as u64)
-}
-
 // a·b: the sum of the products, not reduced.
-#[tactic(auto, using(crate::proofs::Entries::dot_start, crate::proofs::Entries::dot_more))]
+#[tactic(auto, using(crate::proofs::Entries::dot_start, crate::proofs::Entries::dot_more, crate::proofs::Entries::product_below))]
 pub fn sum_of_products(a: [Residue; 16], b: [Residue; 16], n: Width) -> u64
     ensures { (result ≡ dot (entries n a) (entries n b)) × (result ≤ 68719476736) }
 {
     let mut sum: u64 = 0;
     for i in 0..n.value() {
-        sum += whole_product(a[i], b[i]);
+        sum += (a[i].value() as u64) * (b[i].value() as u64);
     }
     sum
 }
@@ -42,14 +36,9 @@ pub fn bounds(v: [Residue; 16], w: [Residue; 16], d: Modulus, n: Width) -> Resul
 }
 
 // The 16 numbers from number k on, as entries.
-#[tactic(auto, using(arith::proofs::Bytes::tab_none, arith::proofs::Bytes::tab_fewer))]
 pub fn entries_from(a: &[u16; 33], k: usize) -> [Residue; 16]
     requires { k ≤ 17 }
     ensures { (n : ℕ) → n ≤ 16 → entries n result ≡ tab (λ i. get_or a.now (k + i) 0) n }
 {
-    let mut out = [Residue::ZERO; 16];
-    for i in 0..16 {
-        out[i] = Residue::lent(a[k + i]);
-    }
-    out
+    std::array::from_fn(|i| Residue::lent(a[k + i]))
 }

@@ -1,4 +1,5 @@
 // Paulis in bytes: the phase, then v, then w, each number two bytes.
+// Its loops go over places: each step needs the place itself, for the number of the bytes, and an iterator over an array would only give it back by `enumerate`.
 ghost use Rattle.std.specs.Prelude.{◌≡◌, ℕ, ◌+◌, ◌*◌, ◌≤◌, ◌<◌, length, get_or};
 ghost use Rattle.std.proofs.lemmas.List.Edits.{sets};
 ghost use Rattle.arith.specs.Bytes.{number_at, numbers_at, bytes_of};
@@ -49,7 +50,7 @@ fn write_entries(b: &mut [u8], k: usize, a: [Residue; 16], n: Width)
 }
 
 impl Pauli {
-    // The Pauli on n qudits that starts at number k of the bytes. All its numbers are read in one loop: of v and w it holds 16 places, whatever n is.
+    // The Pauli on n qudits that starts at number k of the bytes. All its numbers are read in one loop: of v and w it holds 16 places, whatever n is. Tried, v, w and the word in one loop, as `from_entries` makes them: a commutation number on 16 qudits takes a fifth longer.
     pub fn read(b: &[u8], k: usize, n: Width) -> Pauli
         requires { 2 * (k + 1 + 2 * n) ≤ length b.now }
         ensures value { view n result ≡ decode_at n k b.now }

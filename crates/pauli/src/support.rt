@@ -12,10 +12,7 @@ use arith::residue::Residue;
 fn mark(x: Residue, z: Residue) -> u16
     ensures { (result ≡ mark x.0 z.0) × (result < 2) }
 {
-    if x == Residue::ZERO && z == Residue::ZERO {
-        return 0;
-    }
-    1
+    u16::from(x != Residue::ZERO || z != Residue::ZERO)
 }
 
 // The word of i qudits, and of one more, which has the entries x and z. It is made in the loop that makes the entries: to read them again would wait for their stores.
@@ -35,7 +32,7 @@ pub fn with_entries(word: u16, i: u16, x: Residue, z: Residue) -> u16
     word ^ ((old ^ mark(x, z)) << i)
 }
 
-// The word of n qudits with these entries.
+// The word of n qudits with these entries. Over places, since `with_next` takes the place too.
 pub fn word_of(v: &[Residue; 16], w: &[Residue; 16], n: Width) -> u16
     ensures { result ≡ word_of (marks (entries n v.now) (entries n w.now)) }
 {

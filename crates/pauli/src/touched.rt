@@ -30,7 +30,7 @@ fn on_one(phase: Phase, v: Residue, w: Residue) -> Touched
     }
 }
 
-// Whether both are 0. The compiler makes one test of v and w of a qudit, since neither comparison has an effect: a test of each is guessed wrongly more often.
+// Whether both are 0. The compiler makes one test of v and w of a qudit, since neither comparison has an effect: a test of each is guessed wrongly by the processor more often.
 fn both_zero(v: Residue, w: Residue) -> bool
     ensures { result ≡ eqb (v.0 + w.0) 0 }
 {

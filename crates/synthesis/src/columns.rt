@@ -32,12 +32,13 @@ impl Columns {
         Columns { d, n, table }
     }
 
-    // v of column c at qudit i.
+    // v of column c at qudit i. It and `w` differ in the field that is read and in its clause: one function of both would take a flag, which each call would pass as a constant.
+    // That c is a column and i a qudit each function asks of its caller, here, in turns and in reduction: the type of a number can't say it, since n is a field of the columns.
     pub fn v(&self, c: usize, i: usize) -> Residue
         requires { (c < 2 * self.now.n) × (i < self.now.n) }
         ensures { result.0 ≡ get_or (column self.now.n (seen self.now) c).v i 0 }
     {
-        tableau::table::v_at(&self.table, c, i)
+        self.table.v(c, i)
     }
 
     // w of column c at qudit i.
@@ -45,7 +46,7 @@ impl Columns {
         requires { (c < 2 * self.now.n) × (i < self.now.n) }
         ensures { result.0 ≡ get_or (column self.now.n (seen self.now) c).w i 0 }
     {
-        tableau::table::w_at(&self.table, c, i)
+        self.table.w(c, i)
     }
 
     // The phase of column c.
@@ -53,7 +54,7 @@ impl Columns {
         requires { c < 2 * self.now.n }
         ensures { result.0 ≡ (column self.now.n (seen self.now) c).phase }
     {
-        tableau::table::phase_at(&self.table, c)
+        self.table.phase(c)
     }
 
     // Whether v of column c is 0 at qudit `from` and every later one.
@@ -61,12 +62,7 @@ impl Columns {
         requires { (c < 2 * self.now.n) × (from ≤ self.now.n) }
         ensures { result ≡ no_v (column self.now.n (seen self.now) c) (up_from from (self.now.n - from)) }
     {
-        for i in from..self.n.value() {
-            if self.v(c, i) != Residue::ZERO {
-                return false;
-            }
-        }
-        true
+        (from..self.n.value()).all(|i| self.v(c, i) == Residue::ZERO)
     }
 
     // The power of S that makes w of column c 0 at qudit j, where there is one.
@@ -86,6 +82,6 @@ impl Columns {
     {
         let d = self.d;
         let n = self.n;
-        tableau::table::put_columns(&mut self.table, row, d, n);
+        self.table.put(row, d, n);
     }
 }

@@ -14,6 +14,7 @@ use crate::list::write_row;
 use gates::Row;
 
 // The columns so far, and the undo rows of the rows so far: `count` of them from the front of the output on.
+// The output and the count are two fields: a slice of what is left of the output would lose its front, which is reversed at the end.
 #[derive(Drop)]
 pub struct Reduction<'a> {
     pub columns: Columns,

@@ -73,12 +73,12 @@ impl Columns {
         Some(Row::on_one(Kind::F, j, exchange_power(self.w(c, j), self.d)))
     }
 
-    // S with power k.
-    pub fn shear(&self, j: usize, k: Residue) -> Option<Row>
+    // S with that power.
+    pub fn shear(&self, j: usize, power: Residue) -> Option<Row>
         requires { j < self.now.n }
-        ensures { Makes (λ d n. put_s d j k.0) self.now result }
+        ensures { Makes (λ d n. put_s d j power.0) self.now result }
     {
-        by_s(j, k, self.d)
+        by_s(j, power, self.d)
     }
 
     // S, by which w becomes 0; none where no power does that.

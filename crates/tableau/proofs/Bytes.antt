@@ -12,6 +12,8 @@ use Rattle.arith.proofs.Refusals.{or_else_none}
 use Rattle.arith.proofs.Passes.{both_pass}
 use Rattle.pauli.specs.Pauli.{Pauli, InRange, phase_only}
 use Rattle.pauli.specs.Bytes.{decode_at, numbers_of, encode}
+use Rattle.pauli.specs.declared.Pauli.{Pauli as Code}
+use Rattle.pauli.specs.Inner.View.{at, entries, view}
 use Rattle.pauli.specs.Range.{pauli_range_of}
 use Rattle.pauli.proofs.Ranges.{entries_length}
 use Rattle.pauli.proofs.RangeChecks.{pauli_passes}
@@ -99,6 +101,45 @@ decode_encode {n = n} {t} rest pos g =
     ∙ ap (tab (column n t)) (sym g.columns) ∙ tab_list (phase_only n 0) t
 
 -- ---- writing
+-- a Pauli of the code has 1 + 2n numbers
+pub view_length : (n : ℕ) (q : Code) → length (numbers_of (view n q)) ≡ 1 + 2 * n
+view_length n q = omega (arith, length-append (entries n q.v) (entries n q.w), tab_length (at q.v) n, tab_length (at q.w) n)
+
+-- what a loop that writes the Paulis g 0, g 1, .. has made of the output after j of them
+pub record PaulisWritten (n : ℕ) (g : ℕ → Pauli) (old new : List ℕ) (j : ℕ) : Type 0 where
+  pub size : length new ≡ length old
+  pub numbers : length (tableau_numbers (tab g j)) ≡ j * (1 + 2 * n)
+  pub bytes : new ≡ sets old (2 * 0) (encode_tableau (tab g j))
+
+-- before the first
+pub paulis_none : (n : ℕ) (g : ℕ → Pauli) (old : List ℕ) → PaulisWritten n g old old 0
+unfolding encode_tableau bytes_of
+paulis_none n g old = record { size = refl; numbers = rw (tab_none g) (omega arith); bytes = rw (tab_none g) refl }
+
+-- after Pauli j
+pub paulis_next : (n : ℕ) (g : ℕ → Pauli) {old new next : List ℕ} (j : ℕ) {q : Pauli} → length (numbers_of q) ≡ 1 + 2 * n → q ≡ g j → PaulisWritten n g old new j
+    → next ≡ sets new (2 * (j * (1 + 2 * n))) (encode q) → PaulisWritten n g old next (j + 1)
+unfolding encode_tableau
+paulis_next n g {old} {new} {next} j {q} h e w p = record {
+  size = ap length p ∙ length-sets new (2 * (j * (1 + 2 * n))) (encode q) ∙ w.size;
+  numbers = ap length (sym one_more) ∙ length-append (tableau_numbers (tab g j)) (numbers_of (g j)) ∙ omega (arith, w.numbers, rw e at h);
+  bytes =
+      p
+      ∙ rw (w.bytes, e) (write_more old 0 (j * (1 + 2 * n)) (tableau_numbers (tab g j)) (numbers_of (g j)) (omega (arith, w.numbers)) ∙ ap (λ (z : List ℕ). sets old (2 * 0) (bytes_of z)) one_more);
+}
+  where
+    one_more : tableau_numbers (tab g j) ++ numbers_of (g j) ≡ tableau_numbers (tab g (j + 1))
+    one_more = ap (λ (z : List ℕ). tableau_numbers (tab g j) ++ z) (sym (append-nil (numbers_of (g j)))) ∙ sym (numbers_append (tab g j) (g j ∷ [])) ∙ ap tableau_numbers (sym (tab_more g j))
+
+-- after the last of m: all of them at the front of an output that has room
+pub paulis_all : (n m : ℕ) (g : ℕ → Pauli) {old new : List ℕ} {j : ℕ} → j ≡ m → 2 * (m * (1 + 2 * n)) ≤ length old → PaulisWritten n g old new j → new ≡ front (encode_tableau (tab g m)) old
+unfolding encode_tableau
+paulis_all n m g {old} {j = j} e room w =
+    w.bytes
+    ∙ ap (λ (i : ℕ). sets old (2 * 0) (bytes_of (tableau_numbers (tab g i)))) e
+    ∙ write_front old (bytes_of (tableau_numbers (tab g m))) (omega (arith, bytes_length (tableau_numbers (tab g m)), rw e at w.numbers))
+
+-- ---- the same of a table of columns that have 1 + 2n numbers each
 -- columns of 1 + 2n numbers each
 columns_length : (n : ℕ) (g : ℕ → Pauli) (m : ℕ) → ((i : ℕ) → length (numbers_of (g i)) ≡ 1 + 2 * n) → length (tableau_numbers (tab g m)) ≡ m * (1 + 2 * n)
 unfolding tab

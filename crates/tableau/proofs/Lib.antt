@@ -4,6 +4,7 @@ pub mod Batches
 pub mod Bench
 pub mod Bytes
 pub mod Changing
+pub mod Chunks
 pub mod Columns
 pub mod Compose
 pub mod Examples

@@ -1,23 +1,33 @@
 -- What the loops over the columns keep: a definition at the whole tableau is the same definition at the columns that are left. Assumes nothing.
 use mathlib.Core.Path.{◌≡◌, refl, sym, ap, ap₂, ◌∙◌}
 use mathlib.Core.List.{List, ◌∷◌, ◌++◌, map}
-use mathlib.Core.Bool.{Bool, true, false}
-use Prim.Native.Nat.{ℕ, zero, suc, min, ◌+◌, ◌*◌, ◌-◌, ◌≤◌, ◌<◌}
+use mathlib.Core.Bool.{Bool, ◌&&◌}
+use Prim.Native.Nat.{ℕ, zero, suc, ◌+◌, ◌*◌, ◌-◌, ◌%◌, ◌≤◌, ◌<◌}
 use native.Mathlib.Nat.{zero-add}
 use native.Mathlib.Numerals.{add-one}
 use native.Mathlib.Omega.{arith}
-use lib.ListN.{length, get_or, take, drop, drop_of_length-le, get_or-append}
+use lib.ListN.{length, get_or, drop, drop_of_length-le, get_or-append}
 use lib.Seq.{drop-cons, get_or-append-add}
 use Rattle.arith.specs.Bytes.{tab}
 use Rattle.arith.proofs.Bytes.{tab_length, tab_at, tab_ext, tab_list, tab_map}
-use Rattle.arith.specs.Refusals.{or_else, number_of, pairing_of}
+use Rattle.arith.specs.Refusals.{or_else, number_of}
+use denote.Param.Members.{Mut}
 use Rattle.std.specs.Prelude.{Result, Ok, Err}
+use Rattle.std.specs.declared.ops.Range.{Range}
+use Rattle.std.specs.Fn.{Called}
+use Rattle.std.specs.Iterator.{ChecksAll}
+use Rattle.std.specs.List.{list_all, range_with_len}
+use Rattle.std.proofs.iter.Yields.{nat_range_steps}
+use Rattle.std.proofs.lemmas.Iterator.{YieldsList-from_range}
+use Rattle.std.proofs.lemmas.Iterator.Search.{all_from_yields_List}
 use Rattle.arith.specs.declared.checks.Refusal.{Refusal}
-use Rattle.arith.proofs.Refusals.{good, stop, not_zero}
-use Rattle.pauli.specs.Pauli.{Pauli, product, power, phase_only, unit}
+use Rattle.arith.proofs.Refusals.{good, stop}
+use Rattle.arith.specs.Residues.{neg}
+use Rattle.pauli.specs.Pauli.{Pauli, product, power, phase_only, unit, comm}
+use Rattle.pauli.proofs.Ranges.{pauli_path}
 use Rattle.pauli.specs.Range.{pauli_range_of}
 use Rattle.tableau.specs.Tableau.{up_from, column, multiplied, image, compose}
-use Rattle.tableau.specs.Inverse.{preimage, inverse}
+use Rattle.tableau.specs.Inverse.{drawn, preimage, inverse}
 use Rattle.tableau.specs.Bytes.{column_at}
 use Rattle.tableau.specs.Range.{tableau_range_of}
 use Rattle.tableau.specs.Inner.Parts.{paulis_at}
@@ -49,28 +59,24 @@ batch_at n b m j h = tab_at (λ i. column_at n i b) m j (phase_only n 0) h
 pub batch_length : (n : ℕ) (b : List ℕ) (m : ℕ) → length (paulis_at n b m) ≡ m
 batch_length n b m = tab_length (λ j. column_at n j b) m
 
--- the first of them, if there is one
-pub first_of : (n : ℕ) (b : List ℕ) (m : ℕ) → take 1 (paulis_at n b m) ≡ paulis_at n b (min m 1)
-unfolding tab
-first_of n b zero = refl
-first_of n b (suc m) = let e : min (suc m) 1 ≡ 1 = omega arith in rw e refl
-
--- ---- tests of the numbers from k up to m: before the first turn, k passes, k fails, none is left
+-- ---- tests of the numbers from 0 up to m, before the first turn
 pub all_start : (test : ℕ → Bool) (m : ℕ) → all test (up_from 0 m) ≡ all test (up_from 0 (m - 0))
 all_start test m = let e : m - 0 ≡ m = omega arith in rw e refl
 
--- ---- tests of the numbers from k up to m: k passes, k fails, none is left
-pub all_pass : (test : ℕ → Bool) (k m : ℕ) → k < m → test k ≡ true → all test (up_from k (m - k)) ≡ all test (up_from (k + 1) (m - (k + 1)))
-all_pass test k m h e =
-    let s : m - k ≡ suc (m - (k + 1)) = omega arith in
-    let p : suc k ≡ k + 1 = omega arith in
-    rw (s, e, p) refl
+-- ---- a test of each number from k up to below m, by std's `all` over the range
+module _ (test : ℕ → Bool) where
+  listed : (k m : ℕ) → list_all test (range_with_len k m) ≡ all test (up_from k m)
+  listed k zero = refl
+  listed k (suc m) = ap (λ (b : Bool). test k && b) (listed (k + 1) m ∙ ap (λ (i : ℕ). all test (up_from i m)) (add-one k))
 
-pub all_fail : (test : ℕ → Bool) (k m : ℕ) → k < m → test k ≡ false → all test (up_from k (m - k)) ≡ false
-all_fail test k m h e = let s : m - k ≡ suc (m - (k + 1)) = omega arith in rw (s, e) refl
+  pub all_tested : {F : Type 0} {g : Mut F (ℕ × Unit {0}) Bool} {s : Range ℕ} (k m : ℕ) (u : Range ℕ) (f : F) (r : Bool) → ChecksAll nat_range_steps g s f r u → s ≡ record { start = k; end = m }
+      → ((x : ℕ) (b : Bool) (q : F) → Called g f (x, tt) b q → (q ≡ f) × (b ≡ test x)) → r ≡ all test (up_from k (m - k))
+  all_tested k m u f r ran e h = all_from_yields_List test u f r ran (YieldsList-from_range k m (m - k) e refl) h ∙ listed k (m - k)
 
-pub all_end : (test : ℕ → Bool) (k m : ℕ) → m ≤ k → all test (up_from k (m - k)) ≡ true
-all_end test k m h = let s : m - k ≡ 0 = omega arith in rw s refl
+  -- from 0 on
+  pub all_from_zero : {F : Type 0} {g : Mut F (ℕ × Unit {0}) Bool} {s : Range ℕ} (m : ℕ) (u : Range ℕ) (f : F) (r : Bool) → ChecksAll nat_range_steps g s f r u → s ≡ record { start = 0; end = m }
+      → ((x : ℕ) (b : Bool) (q : F) → Called g f (x, tt) b q → (q ≡ f) × (b ≡ test x)) → r ≡ all test (up_from 0 m)
+  all_from_zero m u f r ran e h = let same : m - 0 ≡ m = omega arith in all_tested 0 m u f r ran e h ∙ ap (λ (i : ℕ). all test (up_from 0 i)) same
 
 -- ---- products of powers: column j to its power, then those after it
 pub multiplied_next : (d n : ℕ) (x : Pauli) {y whole : Pauli} (t : List Pauli) (ks : List ℕ) (j : ℕ) → j < length t → j < length ks
@@ -79,15 +85,6 @@ multiplied_next d n x t ks j h l e p = p ∙ rw (e, add-one j, drop-cons t j (ph
 
 pub multiplied_end : (d n : ℕ) (x : Pauli) (t : List Pauli) (ks : List ℕ) (j : ℕ) → length t ≤ j → multiplied d n x (drop j t) (drop j ks) ≡ x
 multiplied_end d n x t ks j h = rw (drop_of_length-le t h) refl
-
--- ---- what an answer of the pairing test says of the test
-pub pairing_failed : (holds : Bool) {A : Type 0} {k : Refusal} {r : Result A Refusal} → number_of r ≡ pairing_of holds → r ≡ Err k → holds ≡ false
-unfolding pairing_of
-pairing_failed true e g = absurd (not_zero e g)
-pairing_failed false e g = refl
-
--- for the functions that test all columns
-pub ruleset each_test = (all_pass, all_fail, all_end, pairing_failed)
 
 -- ---- the power of column j: v at j, then w at j − n
 pub power_v : (n j : ℕ) (f g : ℕ → ℕ) → j < n → f j ≡ get_or (tab f n ++ tab g n) j 0
@@ -115,3 +112,7 @@ compose_table d n m t u e =
 
 pub inverse_table : (d n : ℕ) (t : List Pauli) → inverse d n t ≡ tab (λ j. preimage d n t (unit n j)) (2 * n)
 inverse_table d n t = ap (map (preimage d n t)) (table (unit n) (2 * n)) ∙ tab_map (preimage d n t) (unit n) (2 * n)
+
+-- ---- the entries that a tableau carries to q, by their numbers
+pub drawn_table : (d n : ℕ) (t : List Pauli) (q : Pauli) → drawn d n t q ≡ record { phase = 0; v = tab (λ i. neg d (comm d q (column n t (n + i))) % d) n; w = tab (λ i. comm d q (column n t i)) n }
+drawn_table d n t q = pauli_path refl (table (λ i. neg d (comm d q (column n t (n + i))) % d) n) (table (λ i. comm d q (column n t i)) n)

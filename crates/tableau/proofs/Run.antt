@@ -6,7 +6,7 @@ use native.Mathlib.Omega.{arith}
 use Rattle.pauli.specs.Pauli.{Pauli, InRange, unit}
 use Rattle.arith.specs.Bytes.{tab}
 use Rattle.gates.specs.Row.{Row, AllLegal, apply, run}
-use Rattle.gates.specs.Written.{WrittenRow, meant}
+use Rattle.gates.specs.Written.{WrittenRow, meant, row_at}
 use Rattle.gates.proofs.Run.{run_append, run_hom, run_start, run_next}
 use Rattle.tableau.specs.Tableau.{units, column, tableau_of, image, WellFormed, Sound, compose}
 use Rattle.tableau.proofs.Columns.{units_range, column_map, column_units, hom_formed, hom_sound, map_agree}
@@ -35,13 +35,16 @@ tableau_append {d} {n} one rs {ss} a b =
     ∙ sym (map-map (image d n (tableau_of d n ss)) (run d rs) (units n))
 
 -- ---- row by row: a loop that puts each row behind all columns, before the first row and after row i
-pub rows_none : (d : ℕ) (f : ℕ → WrittenRow) (t : List Pauli) → t ≡ map (run d (map meant (tab f 0))) t
-rows_none d f [] = refl
-rows_none d f (p ∷ t) = ap₂ (λ (x : Pauli) (l : List Pauli). x ∷ l) (run_start d f p) (rows_none d f t)
+rows_start : (d : ℕ) (f : ℕ → WrittenRow) (t : List Pauli) → t ≡ map (run d (map meant (tab f 0))) t
+rows_start d f [] = refl
+rows_start d f (p ∷ t) = ap₂ (λ (x : Pauli) (l : List Pauli). x ∷ l) (run_start d f p) (rows_start d f t)
+
+pub rows_none : (d : ℕ) (b : List ℕ) (t : List Pauli) {u : List Pauli} → u ≡ t → u ≡ map (run d (map meant (tab (row_at b) 0))) t
+rows_none d b t e = e ∙ rows_start d (row_at b) t
 
 rows_more : (d : ℕ) (f : ℕ → WrittenRow) (i : ℕ) (t : List Pauli) → map (apply d (meant (f i))) (map (run d (map meant (tab f i))) t) ≡ map (run d (map meant (tab f (i + 1)))) t
 rows_more d f i [] = refl
 rows_more d f i (p ∷ t) = ap₂ (λ (x : Pauli) (l : List Pauli). x ∷ l) (run_next d f i p refl refl) (rows_more d f i t)
 
-pub rows_next : (d : ℕ) (f : ℕ → WrittenRow) (i : ℕ) (t : List Pauli) {u s : List Pauli} → u ≡ map (run d (map meant (tab f i))) t → s ≡ map (apply d (meant (f i))) u → s ≡ map (run d (map meant (tab f (i + 1)))) t
-rows_next d f i t e g = g ∙ ap (map (apply d (meant (f i)))) e ∙ rows_more d f i t
+pub rows_next : (d : ℕ) (b : List ℕ) (i : ℕ) (t : List Pauli) {u s : List Pauli} {w : WrittenRow} → u ≡ map (run d (map meant (tab (row_at b) i))) t → w ≡ row_at b i → s ≡ map (apply d (meant w)) u → s ≡ map (run d (map meant (tab (row_at b) (i + 1)))) t
+rows_next d b i t e r g = g ∙ rw r (ap (map (apply d (meant (row_at b i)))) e) ∙ rows_more d (row_at b) i t

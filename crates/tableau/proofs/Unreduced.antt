@@ -2,12 +2,13 @@
 use mathlib.Core.Path.{◌≡◌, refl, sym, ap, ◌∙◌}
 use mathlib.Core.List.{List, [], ◌∷◌}
 use Prim.Native.Nat.{ℕ, ◌+◌, ◌*◌, ◌-◌, ◌%◌, ◌≤◌, ◌<◌}
-use native.Mathlib.Nat.{one-mul, zero-mod}
+use native.Mathlib.Nat.{one-mul, zero-mod, mul-le-mul}
 use native.Mathlib.Omega.{arith}
 use lib.ListN.{length, get_or, set, replicate}
 use lib.Seq.{get_or-set_same, get_or-set_other}
 use Rattle.arith.specs.Bytes.{tab}
 use Rattle.arith.proofs.Bytes.{tab_ext, tab_at}
+use Rattle.arith.specs.declared.residue.Residue.{Residue}
 use Rattle.arith.proofs.Cases.{by_eq}
 use Rattle.arith.proofs.Cong.{Cong, cong_trans, cong_scale}
 use Rattle.arith.proofs.Ring.{ring₁, ring₂_by, times, quote}
@@ -75,6 +76,13 @@ none_summed d n p v w = pauli_path refl (zeros p.v v) (zeros p.w w)
     zeros xs e = tab_zero _ n (λ i. ap (λ (x : ℕ). x % d) (ap (λ (ys : List ℕ). get_or ys i 0) e ∙ get_d_zeros 16 i) ∙ zero-mod d)
 
 -- ---- how large
+-- k·x for an entry x of a column, and s·x for a sum s
+pub multiple_small : (k x : ℕ) → k < 65536 → x ≤ 1023 → k * x ≤ 67042305
+multiple_small k x h l = let g : k ≤ 65535 = omega arith in mul-le-mul g l
+
+pub sum_multiple_small : (s x : ℕ) → s < 4294967296 → x ≤ 1023 → s * x ≤ 4393751542785
+sum_multiple_small s x h l = let g : s ≤ 4294967295 = omega arith in mul-le-mul g l
+
 pub column_small : {d n : ℕ} (c : Column) → d ≤ 1024 → InRange d n (column_view n c) → Small n c
 unfolding column_view
 column_small {d} {n} c top r i l = (omega (arith, v_less r i, tab_at (at c.v) n i 0 l), omega (arith, w_less r i, tab_at (at c.w) n i 0 l))
@@ -111,3 +119,7 @@ growing_more {f} {old} {new} i {a} h e l g =
       };
       left = λ j m. get_or-set_other new i j x 0 (λ (q : j ≡ i). omega arith) ∙ g.left j (omega arith);
     }
+
+-- k times entry i of a column
+pub adding_more : (k : ℕ) (xs : List Residue) {old new : List ℕ} (i : ℕ) {x : ℕ} → i < length new → k < 65536 → at xs i ≤ 1023 → x ≡ at xs i → Growing (λ j. k * at xs j) i old new → Growing (λ j. k * at xs j) (i + 1) old (set new i (get_or new i 0 + k * x))
+adding_more k xs i h b l e g = growing_more i h (ap (λ (y : ℕ). k * y) e) (rw e (multiple_small k (at xs i) b l)) g

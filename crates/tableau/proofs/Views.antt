@@ -1,24 +1,22 @@
 -- Laws of the table: reading a number, storing in a column, and loops that change column after column. Assumes nothing.
 use mathlib.Core.Path.{◌≡◌, refl, sym, ◌∙◌, ap, subst}
-use mathlib.Core.List.{List, [], ◌∷◌, map}
+use mathlib.Core.List.{List, map}
 use mathlib.Core.Logic.{◌≢◌}
 use Prim.Native.Nat.{ℕ, zero, suc, ◌+◌, ◌*◌, ◌≤◌, ◌<◌}
 use native.Mathlib.Omega.{arith}
-use lib.ListN.{length, get_or, set, replicate, length-set, length-append, length-map, get_or-eq_default}
+use lib.ListN.{length, get_or, set, replicate, length-set, length-map}
 use lib.Seq.{get_or-set_same, get_or-set_other, ext_get_or, map-set}
 use Rattle.std.proofs.lemmas.List.{get_or-map}
 use Rattle.arith.specs.Bytes.{tab}
 use Rattle.arith.specs.declared.residue.Phase.{Phase}
 use Rattle.arith.specs.declared.residue.Residue.{Residue}
 use Rattle.arith.proofs.Bytes.{tab_at, tab_ext, tab_map, tab_length}
-use Rattle.arith.proofs.Cases.{by_eq, by_less}
+use Rattle.arith.proofs.Cases.{by_eq}
 use Rattle.pauli.specs.Pauli.{Pauli, phase_only}
-use Rattle.pauli.specs.Bytes.{numbers_of}
 use Rattle.pauli.specs.Inner.View.{at, entries}
 use Rattle.pauli.specs.Inner.Touched.{view_touched, touched, replaced, Has}
 use Rattle.pauli.specs.declared.touched.Touched.{Touched as Code}
 use Rattle.pauli.proofs.Entries.{entry, entries_set, entries_zeros}
-use Rattle.pauli.proofs.Lists.{zeros_length}
 use Rattle.pauli.proofs.Ranges.{pauli_path}
 use Rattle.tableau.specs.Tableau.{column}
 use Rattle.tableau.specs.declared.column.Column.{Column}
@@ -56,22 +54,6 @@ view_table n t f h = tab_ext (column n (map (column_view n) t.columns)) f (2 * n
 -- every column changed in the same way
 pub view_map : (n : ℕ) (t t' : Table) (f : Pauli → Pauli) → ((c : ℕ) → c < 2 * n → column n (table_view n t') c ≡ f (column n (table_view n t) c)) → table_view n t' ≡ map f (table_view n t)
 view_map n t t' f h = view_table n t' (λ c. f (column n (table_view n t) c)) h ∙ sym (ap (map f) (view_table n t (column n (table_view n t)) (λ c l. refl)) ∙ tab_map f (column n (table_view n t)) (2 * n))
-
--- how many numbers a column has
-pub view_length : (n : ℕ) (c : Column) → length (numbers_of (column_view n c)) ≡ 1 + 2 * n
-unfolding column_view
-view_length n c = omega (arith, length-append (entries n c.v) (entries n c.w), tab_length (at c.v) n, tab_length (at c.w) n)
-
-columns_length : (n : ℕ) (cs : List Column) (k : ℕ) → length (numbers_of (column n (map (column_view n) cs) k)) ≡ 1 + 2 * n
-columns_length n [] k = omega (arith, length-append {A = ℕ} (replicate n 0) (replicate n 0), zeros_length n)
-columns_length n (c ∷ cs) zero = view_length n c
-columns_length n (c ∷ cs) (suc k) = columns_length n cs k
-
-pub column_length : (n : ℕ) (t : Table) (k : ℕ) → length (numbers_of (column n (table_view n t) k)) ≡ 1 + 2 * n
-unfolding table_view
-column_length n t k = by_less k (2 * n)
-    (λ l. ap (λ (p : Pauli). length (numbers_of p)) (tab_at (column n (map (column_view n) t.columns)) (2 * n) k (phase_only n 0) l) ∙ columns_length n t.columns k)
-    (λ g. ap (λ (p : Pauli). length (numbers_of p)) (get_or-eq_default (table_view n t) (phase_only n 0) (omega (arith, table_length n t))) ∙ columns_length n [] 0)
 
 -- ---- a store in a column
 -- a Pauli with another phase, or with one entry set

@@ -3,12 +3,11 @@ ghost use Rattle.std.specs.Prelude.{◌≡◌, map, ◌+◌, ◌*◌, ◌/◌, �
 ghost use Rattle.arith.specs.Bytes.{front};
 ghost use Rattle.arith.specs.Refusals.{number_of};
 ghost use Rattle.arith.specs.Answers.{Written};
-ghost use Rattle.pauli.specs.Bytes.{pauli_bytes};
 ghost use Rattle.tableau.specs.Tableau.{image, AllInRange};
 ghost use Rattle.tableau.specs.Bytes.{tableau_bytes, decode_tableau, encode_tableau};
 ghost use Rattle.tableau.specs.Range.{tableau_range_of};
 ghost use Rattle.tableau.specs.Batch.{images_refusal, images_answer};
-ghost use Rattle.tableau.specs.Inner.Parts.{images_tests, paulis_at};
+ghost use Rattle.tableau.specs.Inner.Parts.{images_tests, decode_batch};
 ghost use Rattle.tableau.specs.Inner.View.{table_view};
 
 use crate::column::Table;
@@ -18,36 +17,43 @@ use pauli::Pauli;
 
 // ---- tests
 
-// 5 of the first m Paulis.
-fn ranges(batch: &[u8], m: usize, d: Modulus, n: Width) -> Result<(), Refusal>
-    requires room { 2 * (m * (1 + 2 * n)) ≤ length batch.now }
-    ensures { number_of result ≡ tableau_range_of d (paulis_at n batch.now m) }
+// 5 of every Pauli.
+#[tactic(auto, using(crate::proofs::Chunks::chunk_refuse, crate::proofs::Chunks::chunk_pass, crate::proofs::Chunks::chunk_end))]
+fn ranges(batch: &[u8], d: Modulus, n: Width) -> Result<(), Refusal>
+    ensures { number_of result ≡ tableau_range_of d (decode_batch n batch.now) }
 {
-    for j in 0..m {
-        Pauli::read(batch, j * (1 + 2 * n.value()), n).range(d, n)?;
+    for p in batch.chunks_exact(2 * (1 + 2 * n.value())) {
+        Pauli::read(p, 0, n).range(d, n)?;
     }
     Ok(())
 }
 
-// 5 of the first of m Paulis, if there is one.
-fn first_range(batch: &[u8], m: usize, d: Modulus, n: Width) -> Result<(), Refusal>
-    requires room { 2 * (m * (1 + 2 * n)) ≤ length batch.now }
-    ensures { number_of result ≡ tableau_range_of d (take 1 (paulis_at n batch.now m)) }
+// 5 of the first Pauli, if there is one.
+#[tactic(auto, using(crate::proofs::Chunks::batch_first))]
+fn first_range(batch: &[u8], d: Modulus, n: Width) -> Result<(), Refusal>
+    ensures { number_of result ≡ tableau_range_of d (take 1 (decode_batch n batch.now)) }
 {
-    ranges(batch, m.min(1), d, n)
+    let size = 2 * (1 + 2 * n.value());
+    ranges(&batch[..size.min(batch.len())], d, n)
 }
 
 // ---- images
 
-// Writes the images of the first m Paulis.
-fn write_images(t: &Table, batch: &[u8], m: usize, d: Modulus, n: Width, out: &mut [u8])
-    requires all_in_range { AllInRange d n (table_view n t.now) × AllInRange d n (paulis_at n batch.now m) }
-    requires room { (2 * (m * (1 + 2 * n)) ≤ length batch.now) × (length batch.now ≤ length out.old) }
-    ensures { out.new ≡ front (encode_tableau (map (image d n (table_view n t.now)) (paulis_at n batch.now m))) out.old }
-{
-    for j in 0..m {
-        let k = j * (1 + 2 * n.value());
-        crate::maps::image(t, Pauli::read(batch, k, n), d, n).write(out, k, n);
+impl Table {
+    // Writes the images of the Paulis.
+    fn write_images(&self, batch: &[u8], d: Modulus, n: Width, out: &mut [u8])
+        requires all_in_range { AllInRange d n (table_view n self.now) }
+        requires room { length batch.now ≤ length out.old }
+        ensures { out.new ≡ front (encode_tableau (map (image d n (table_view n self.now)) (decode_batch n batch.now))) out.old }
+    {
+        let numbers = 1 + 2 * n.value();
+        let m = batch.len() / (2 * numbers);
+        crate::output::write_paulis(
+            m,
+            n,
+            out,
+            |j| self.image(Pauli::read(batch, j * numbers, n), d, n),
+        );
     }
 }
 
@@ -62,16 +68,15 @@ fn tested_images(
     out: &mut [u8],
 ) -> Result<(), Refusal>
     requires lengths { (length tableau.now ≡ tableau_bytes n) × (length batch.now ≤ length out.old) }
-    ensures { Written (images_tests d n (decode_tableau n tableau.now) (paulis_at n batch.now (length batch.now / pauli_bytes n))) (images_answer d n tableau.now batch.now) out.old out.new (number_of result) }
+    ensures { Written (images_tests d n (decode_tableau n tableau.now) (decode_batch n batch.now)) (images_answer d n tableau.now batch.now) out.old out.new (number_of result) }
 {
     let mut t = Table::ZERO;
-    crate::table::read_into(&mut t, tableau, n);
-    let m = batch.len() / (2 * (1 + 2 * n.value()));
-    crate::checks::range(&t, d, n)?;
-    first_range(batch, m, d, n)?;
-    crate::checks::soundness(&t, d, n)?;
-    ranges(batch, m, d, n)?;
-    write_images(&t, batch, m, d, n, out);
+    t.read(tableau, n);
+    t.range(d, n)?;
+    first_range(batch, d, n)?;
+    t.soundness(d, n)?;
+    ranges(batch, d, n)?;
+    t.write_images(batch, d, n, out);
     Ok(())
 }
 

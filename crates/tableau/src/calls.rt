@@ -10,6 +10,7 @@ ghost use Rattle.tableau.specs.Calls.{tableau_refusal, tableau_answer, image_ref
 use crate::column::Table;
 use arith::checks::Refusal;
 use arith::modulus::{Modulus, Width, given_list};
+use gates::lists::LegalList;
 use pauli::Pauli;
 
 // How many bytes a tableau takes.
@@ -33,13 +34,17 @@ pub fn given(d: u16, n: u16, size: usize) -> Result<(Modulus, Width), Refusal>
 // ---- the tableau of a list
 
 // The tableau of the list: column j is what the list makes of unit Pauli j. Refused by 1, 2, 3, 4, 6.
+#[tactic(auto, using(arith::proofs::Refusals::room_good))]
 pub fn tableau_of(d: u16, n: u16, list: &[u8], out: &mut [u8]) -> Result<(), Refusal>
     ensures { Written (tableau_refusal d n list.now (length out.old)) (tableau_answer d n list.now) out.old out.new (number_of result) }
 {
     let (modulus, width) = given_list(d, n, list.len())?;
     arith::checks::room(tableau_bytes(width), out.len())?;
-    gates::lists::list_legal(list, modulus, width.value())?;
-    crate::output::write_tableau(list, modulus, width, out);
+    // A match: a `?` gets no proof where the value holds a reference beside d and n.
+    match LegalList::new(list, modulus, width) {
+        Ok(legal) => crate::output::write_tableau(&legal, out),
+        Err(refusal) => return Err(refusal),
+    }
     Ok(())
 }
 
@@ -52,12 +57,12 @@ pub fn image(d: u16, n: u16, tableau: &[u8], p: &[u8], out: &mut [u8]) -> Result
     let (modulus, width) = given(d, n, tableau.len())?;
     pauli::calls::lent(n, p.len(), out.len())?;
     let mut t = Table::ZERO;
-    crate::table::read_into(&mut t, tableau, width);
+    t.read(tableau, width);
     let q = Pauli::read(p, 0, width);
-    crate::checks::range(&t, modulus, width)?;
+    t.range(modulus, width)?;
     q.range(modulus, width)?;
-    crate::checks::soundness(&t, modulus, width)?;
-    crate::maps::image(&t, q, modulus, width).write(out, 0, width);
+    t.soundness(modulus, width)?;
+    t.image(q, modulus, width).write(out, 0, width);
     Ok(())
 }
 
@@ -72,15 +77,15 @@ pub fn compose(d: u16, n: u16, first: &[u8], second: &[u8], out: &mut [u8]) -> R
     arith::checks::lent(want, second.len(), want, out.len())?;
     let mut t = Table::ZERO;
     let mut u = Table::ZERO;
-    crate::table::read_into(&mut t, first, width);
-    crate::table::read_into(&mut u, second, width);
-    crate::checks::range(&t, modulus, width)?;
-    crate::checks::range(&u, modulus, width)?;
-    crate::checks::pairing(&t, modulus, width)?;
-    crate::checks::pairing(&u, modulus, width)?;
-    crate::checks::parity(&t, modulus, width)?;
-    crate::checks::parity(&u, modulus, width)?;
-    crate::output::write_composed(&t, &u, modulus, width, out);
+    t.read(first, width);
+    u.read(second, width);
+    t.range(modulus, width)?;
+    u.range(modulus, width)?;
+    t.pairing(modulus, width)?;
+    u.pairing(modulus, width)?;
+    t.parity(modulus, width)?;
+    u.parity(modulus, width)?;
+    t.write_composed(&u, modulus, width, out);
     Ok(())
 }
 
@@ -93,8 +98,8 @@ pub fn inverse(d: u16, n: u16, tableau: &[u8], out: &mut [u8]) -> Result<(), Ref
     let (modulus, width) = given(d, n, tableau.len())?;
     arith::checks::room(tableau_bytes(width), out.len())?;
     let mut t = Table::ZERO;
-    crate::table::read_into(&mut t, tableau, width);
-    crate::checks::tests(&t, modulus, width)?;
-    crate::output::write_inverse(&t, modulus, width, out);
+    t.read(tableau, width);
+    t.tests(modulus, width)?;
+    t.write_inverse(modulus, width, out);
     Ok(())
 }

@@ -3,10 +3,11 @@ ghost use Rattle.std.specs.Prelude.{◌≡◌, length};
 
 use arith::residue::{Phase, Residue};
 
-// A column: what the tableau makes of one unit Pauli.
+// A column: what the tableau makes of one unit Pauli. It is no `Pauli`: each row that is put behind would have to keep the support words of all columns true, and nothing reads a word before `Table::column` makes it.
 #[derive(Clone, Copy)]
 pub struct Column {
     pub phase: Phase,
+    // two arrays, and none of pairs: the bytes have all v, then all w, and a sum of products takes several entries of one kind at a time
     pub v: [Residue; 16],
     pub w: [Residue; 16],
     // as long as their types say: what nothing else tells of an array behind a reference

@@ -1,4 +1,5 @@
 // A product of powers of columns in work: its phase, and the sums of v and of w, at 16 places each, of which the first n are in use.
+// A loop goes by the places of two arrays, as those of pauli/src/arrays.rt do.
 // The sums are reduced once, when all columns are multiplied: that is a division for each entry of the product, and not for each entry of each column.
 // All numbers fit: with entries of at most 1,023 and powers of at most 65,535, k·x is at most 67,042,305 and 16 of them 1,072,676,880, and a sum takes 32 of them. A sum below 2³² times x is at most
 // 4,393,751,542,785 and 16 of them 70,300,024,684,560; with these the phase is below 2⁶⁴ before it is reduced.
@@ -16,27 +17,10 @@ use pauli::Pauli;
 #[derive(Drop)]
 pub struct Product {
     pub phase: Phase,
+    // two arrays, and none of pairs: `add` and `cross_twist` take several entries of one kind of a column at a time
     pub v: [u32; 16],
     pub w: [u32; 16],
     ghost places: { (length v ≡ 16) × (length w ≡ 16) },
-}
-
-// ---- the terms of a sum
-
-// k·x for an entry x of a column.
-fn multiple(k: u16, x: u16) -> u32
-    requires { x ≤ 1023 }
-    ensures { (result ≡ k * x) × (result ≤ 67042305) }
-{
-    (k as u32) * (x as u32)
-}
-
-// s·x for a sum s and an entry x of a column.
-fn sum_multiple(s: u32, x: u16) -> u64
-    requires { x ≤ 1023 }
-    ensures { (result ≡ s * x) × (result ≤ 4393751542785) }
-{
-    (s as u64) * (x as u64)
 }
 
 // The phase of a product of phase h with k copies of a column of phase δ: h + k·(δ + (k − 1)·own + 2·cross).
@@ -61,14 +45,14 @@ impl Column {
     ghost use Rattle.tableau.specs.Inner.Sums.{Small};
 
     // w·v of a column. Of small entries it fits in 32 bits, so that the loop takes more of them at a time.
-    #[tactic(auto, using(pauli::proofs::Entries::dot_start, pauli::proofs::Entries::dot_more), unfolding(crate::specs::Inner::View::column_view))]
+    #[tactic(auto, using(pauli::proofs::Entries::dot_start, pauli::proofs::Entries::dot_more, crate::proofs::Unreduced::multiple_small), unfolding(crate::specs::Inner::View::column_view))]
     fn own_twist(&self, n: Width) -> u32
         requires { Small n self.now }
         ensures { (result ≡ dot (column_view n self.now).w (column_view n self.now).v) × (result ≤ 1072676880) }
     {
         let mut sum: u32 = 0;
         for i in 0..n.value() {
-            sum += multiple(self.w[i].value(), self.v[i].value());
+            sum += (self.w[i].value() as u32) * (self.v[i].value() as u32);
         }
         sum
     }
@@ -90,29 +74,29 @@ impl Product {
         }
     }
 
-    // w·v for the sums w and the v of a column.
-    #[tactic(auto, using(pauli::proofs::Entries::dot_start, pauli::proofs::Entries::dot_more), unfolding(crate::specs::Inner::View::column_view))]
+    // w·v for the sums w and the v of a column. Not one function with `own_twist` and pauli's `sum_of_products`: each adds up in a width of its own, and another bound shows that nothing is lost, so that a trait would have three impls and three laws for one line.
+    #[tactic(auto, using(pauli::proofs::Entries::dot_start, pauli::proofs::Entries::dot_more, crate::proofs::Unreduced::sum_multiple_small), unfolding(crate::specs::Inner::View::column_view))]
     fn cross_twist(&self, c: &Column, n: Width) -> u64
         requires { Small n c.now }
         ensures { (result ≡ dot (tab (λ i. get_or self.now.w i 0) n) (column_view n c.now).v) × (result ≤ 70300024684560) }
     {
         let mut sum: u64 = 0;
         for i in 0..n.value() {
-            sum += sum_multiple(self.w[i], c.v[i].value());
+            sum += (self.w[i] as u64) * (c.v[i].value() as u64);
         }
         sum
     }
 
     // Adds k times the entries of a column, in place: sums that are handed on by value are copied for each column.
-    #[tactic(auto, using(crate::proofs::Unreduced::growing_none, crate::proofs::Unreduced::growing_more))]
+    #[tactic(auto, using(crate::proofs::Unreduced::growing_none, crate::proofs::Unreduced::multiple_small))]
     fn add(&mut self, c: &Column, k: Power, n: Width)
         requires width { Small n c.now }
         requires summed { Summed 31 self.old }
         ensures { Added k.0 n c.now self.old self.new }
     {
         for i in 0..n.value() {
-            self.v[i] = self.v[i] + multiple(k.0, c.v[i].value());
-            self.w[i] = self.w[i] + multiple(k.0, c.w[i].value());
+            self.v[i] = self.v[i] + (k.0 as u32) * (c.v[i].value() as u32);
+            self.w[i] = self.w[i] + (k.0 as u32) * (c.w[i].value() as u32);
         }
     }
 
@@ -136,25 +120,17 @@ impl Product {
     }
 
     // The product, reduced.
+    #[tactic(auto, unfolding(crate::specs::Inner::Sums::product_view))]
     pub fn reduced(&self, d: Modulus, n: Width) -> Pauli
         ensures value { view n result ≡ product_view d n self.now }
         ensures word { WordTrue n result }
     {
-        let mut v = [Residue::ZERO; 16];
-        let mut w = [Residue::ZERO; 16];
-        let mut word: u16 = 0;
-        for i in 0..n.value() {
-            let x = entry(self.v[i], d);
-            let z = entry(self.w[i], d);
-            v[i] = x;
-            w[i] = z;
-            word = pauli::support::with_next(word, i, x, z);
-        }
-        Pauli {
-            phase: self.phase,
-            v,
-            w,
-            support: word,
-        }
+        // n is at most 16
+        let _few = n.value();
+        Pauli::from_entries(
+            self.phase,
+            n,
+            |i| (entry(self.v[i], d), entry(self.w[i], d)),
+        )
     }
 }

@@ -22,185 +22,130 @@ use pauli::touched::Touched;
 
 // ---- its numbers
 
-// v of qudit i in column c.
-#[tactic(auto, using(crate::proofs::Views::view_v))]
-pub fn v_at(t: &Table, c: usize, i: usize) -> Residue
-    requires { (c < 32) × (i < 16) }
-    ensures { (n : ℕ) → c < 2 * n → i < n → result.0 ≡ get_or (column n (table_view n t.now) c).v i 0 }
-{
-    t.columns[c].v[i]
-}
+impl Table {
+    // v of qudit i in column c. It and `w` differ in the field that they read and in its clause: one of both would take a flag that each call passes as a constant.
+    #[tactic(auto, using(crate::proofs::Views::view_v))]
+    pub fn v(&self, c: usize, i: usize) -> Residue
+        requires { (c < 32) × (i < 16) }
+        ensures { (n : ℕ) → c < 2 * n → i < n → result.0 ≡ get_or (column n (table_view n self.now) c).v i 0 }
+    {
+        self.columns[c].v[i]
+    }
 
-// w of qudit i in column c.
-#[tactic(auto, using(crate::proofs::Views::view_w))]
-pub fn w_at(t: &Table, c: usize, i: usize) -> Residue
-    requires { (c < 32) × (i < 16) }
-    ensures { (n : ℕ) → c < 2 * n → i < n → result.0 ≡ get_or (column n (table_view n t.now) c).w i 0 }
-{
-    t.columns[c].w[i]
-}
+    // w of qudit i in column c.
+    #[tactic(auto, using(crate::proofs::Views::view_w))]
+    pub fn w(&self, c: usize, i: usize) -> Residue
+        requires { (c < 32) × (i < 16) }
+        ensures { (n : ℕ) → c < 2 * n → i < n → result.0 ≡ get_or (column n (table_view n self.now) c).w i 0 }
+    {
+        self.columns[c].w[i]
+    }
 
-// The phase of column c.
-#[tactic(auto, using(crate::proofs::Views::view_phase))]
-pub fn phase_at(t: &Table, c: usize) -> Phase
-    requires { c < 32 }
-    ensures { (n : ℕ) → c < 2 * n → result.0 ≡ (column n (table_view n t.now) c).phase }
-{
-    t.columns[c].phase
-}
+    // The phase of column c.
+    #[tactic(auto, using(crate::proofs::Views::view_phase))]
+    pub fn phase(&self, c: usize) -> Phase
+        requires { c < 32 }
+        ensures { (n : ℕ) → c < 2 * n → result.0 ≡ (column n (table_view n self.now) c).phase }
+    {
+        self.columns[c].phase
+    }
 
-// ---- its columns
-
-// Column j as a Pauli. A column in work has no support word: it is made here.
-#[tactic(auto, using(crate::proofs::Views::view_column), unfolding(crate::specs::Inner::View::column_view))]
-pub fn column(t: &Table, j: usize, n: Width) -> Pauli
-    requires { j < 2 * n }
-    ensures value { view n result ≡ column n (table_view n t.now) j }
-    ensures word { WordTrue n result }
-{
-    let c = &t.columns[j];
-    let word = pauli::support::word_of(&c.v, &c.w, n);
-    Pauli {
-        phase: c.phase,
-        v: c.v,
-        w: c.w,
-        support: word,
+    // Column j as a Pauli. A column in work has no support word: it is made here.
+    #[tactic(auto, using(crate::proofs::Views::view_column), unfolding(crate::specs::Inner::View::column_view))]
+    pub fn column(&self, j: usize, n: Width) -> Pauli
+        requires { j < 2 * n }
+        ensures value { view n result ≡ column n (table_view n self.now) j }
+        ensures word { WordTrue n result }
+    {
+        let c = &self.columns[j];
+        let word = pauli::support::word_of(&c.v, &c.w, n);
+        Pauli {
+            phase: c.phase,
+            v: c.v,
+            w: c.w,
+            support: word,
+        }
     }
 }
 
 // ---- bytes
 
-// Reads the column whose numbers start at number k of the bytes.
-#[tactic(auto, using(pauli::proofs::Entries::fill_more, arith::proofs::Bytes::tab_none), unfolding(crate::specs::Inner::View::column_view))]
-fn read_column(c: &mut Column, b: &[u8], k: usize, n: Width)
-    requires width { 2 * (k + 1 + 2 * n) ≤ length b.now }
-    ensures { column_view n c.new ≡ decode_at n k b.now }
-{
-    let m = n.value();
-    c.phase = Phase::lent(arith::numbers::get(b, k));
-    for i in 0..m {
-        c.v[i] = Residue::lent(arith::numbers::get(b, k + 1 + i));
-        c.w[i] = Residue::lent(arith::numbers::get(b, k + 1 + m + i));
+impl Column {
+    // Reads the column whose numbers start at number k of the bytes.
+    #[tactic(auto, using(pauli::proofs::Entries::fill_more, arith::proofs::Bytes::tab_none), unfolding(crate::specs::Inner::View::column_view))]
+    fn read(&mut self, b: &[u8], k: usize, n: Width)
+        requires width { 2 * (k + 1 + 2 * n) ≤ length b.now }
+        ensures { column_view n self.new ≡ decode_at n k b.now }
+    {
+        let m = n.value();
+        self.phase = Phase::lent(arith::numbers::get(b, k));
+        for i in 0..m {
+            self.v[i] = Residue::lent(arith::numbers::get(b, k + 1 + i));
+            self.w[i] = Residue::lent(arith::numbers::get(b, k + 1 + m + i));
+        }
     }
 }
 
-// Reads the tableau that the bytes hold.
-#[tactic(auto, using(crate::proofs::Views::changed_none, crate::proofs::Views::changed_more, crate::proofs::Views::view_table, crate::proofs::Bytes::decode_table))]
-pub fn read_into(t: &mut Table, b: &[u8], n: Width)
-    requires size { length b.now ≡ tableau_bytes n }
-    ensures { table_view n t.new ≡ decode_tableau n b.now }
-{
-    let m = 2 * n.value();
-    for j in 0..m {
-        let columns = &mut t.columns;
-        read_column(&mut columns[j], b, j * (1 + m), n);
+impl Table {
+    // Reads the tableau that the bytes hold.
+    #[tactic(auto, using(crate::proofs::Views::changed_none, crate::proofs::Views::changed_more, crate::proofs::Views::view_table, crate::proofs::Bytes::decode_table))]
+    pub fn read(&mut self, b: &[u8], n: Width)
+        requires size { length b.now ≡ tableau_bytes n }
+        ensures { table_view n self.new ≡ decode_tableau n b.now }
+    {
+        let m = 2 * n.value();
+        for j in 0..m {
+            let columns = &mut self.columns;
+            columns[j].read(b, j * (1 + m), n);
+        }
     }
 }
 
 // ---- the unit tableau
 
-// A column of zeros becomes unit Pauli j.
-#[tactic(auto, using(crate::proofs::Views::store_v, crate::proofs::Views::store_w, pauli::proofs::Units::unit_x_lem, pauli::proofs::Units::unit_z_lem))]
-fn set_unit(c: &mut Column, j: usize, n: Width)
-    requires width { j < 2 * n }
-    requires zero { column_view n c.old ≡ phase_only n 0 }
-    ensures { column_view n c.new ≡ unit n j }
-{
-    let m = n.value();
-    if j < m {
-        c.v[j] = Residue::ONE;
-    } else {
-        c.w[j - m] = Residue::ONE;
+impl Column {
+    // A column of zeros becomes unit Pauli j.
+    #[tactic(auto, using(crate::proofs::Views::store_v, crate::proofs::Views::store_w, pauli::proofs::Units::unit_x_lem, pauli::proofs::Units::unit_z_lem))]
+    fn set_unit(&mut self, j: usize, n: Width)
+        requires width { j < 2 * n }
+        requires zero { column_view n self.old ≡ phase_only n 0 }
+        ensures { column_view n self.new ≡ unit n j }
+    {
+        let m = n.value();
+        if j < m {
+            self.v[j] = Residue::ONE;
+        } else {
+            self.w[j - m] = Residue::ONE;
+        }
     }
 }
 
-// A table of zeros becomes the tableau of the empty list: the unit Paulis.
-#[tactic(auto, using(crate::proofs::Views::changed_none, crate::proofs::Views::changed_more, crate::proofs::Views::view_table, crate::proofs::Views::view_column, crate::proofs::Loops::table))]
-fn set_units(t: &mut Table, n: Width)
-    requires zero { (j : ℕ) → j < 2 * n → column n (table_view n t.old) j ≡ phase_only n 0 }
-    ensures { table_view n t.new ≡ units n }
-{
-    let m = 2 * n.value();
-    for j in 0..m {
-        let columns = &mut t.columns;
-        set_unit(&mut columns[j], j, n);
+impl Table {
+    // A table of zeros becomes the tableau of the empty list: the unit Paulis.
+    #[tactic(auto, using(crate::proofs::Views::changed_none, crate::proofs::Views::changed_more, crate::proofs::Views::view_table, crate::proofs::Views::view_column, crate::proofs::Loops::table))]
+    fn set_units(&mut self, n: Width)
+        requires zero { (j : ℕ) → j < 2 * n → column n (table_view n self.old) j ≡ phase_only n 0 }
+        ensures { table_view n self.new ≡ units n }
+    {
+        let m = 2 * n.value();
+        for j in 0..m {
+            let columns = &mut self.columns;
+            columns[j].set_unit(j, n);
+        }
     }
-}
 
-// The tableau of the empty list.
-pub fn unit_table(n: Width) -> Table
-    ensures { table_view n result ≡ units n }
-{
-    let mut t = Table::ZERO;
-    set_units(&mut t, n);
-    t
+    // The tableau of the empty list.
+    pub fn units(n: Width) -> Table
+        ensures { table_view n result ≡ units n }
+    {
+        let mut t = Table::ZERO;
+        t.set_units(n);
+        t
+    }
 }
 
 // ---- a row put behind
-
-// The numbers of a column that a row on i and j touches.
-#[tactic(auto, using(crate::proofs::Views::column_touched))]
-fn touched(c: &Column, i: usize, j: usize) -> Touched
-    requires { (i < 16) × (j < 16) }
-    ensures { (n : ℕ) → i < n → j < n → touched i j (column_view n c.now) ≡ view_touched result }
-{
-    Touched {
-        phase: c.phase,
-        vi: c.v[i],
-        wi: c.w[i],
-        vj: c.v[j],
-        wj: c.w[j],
-    }
-}
-
-// Puts others in their place.
-#[tactic(auto, using(crate::proofs::Views::column_replaced))]
-fn replace(c: &mut Column, i: usize, j: usize, t: Touched)
-    requires { (i < 16) × (j < 16) }
-    ensures { (n : ℕ) → column_view n c.new ≡ replaced i j (view_touched t) (column_view n c.old) }
-{
-    c.phase = t.phase;
-    c.v[i] = t.vi;
-    c.w[i] = t.wi;
-    c.v[j] = t.vj;
-    c.w[j] = t.wj;
-}
-
-// 0 for a column that no row on i and j changes, 1 for any other.
-fn changes(c: &Column, i: usize, j: usize, d: Modulus) -> u32
-    requires { (i < 16) × (j < 16) }
-    ensures { (n : ℕ) → i < n → j < n → result ≡ changes d i j (column_view n c.now) }
-{
-    u32::from(!touched(c, i, j).still(d))
-}
-
-// A bit for each column in use: 0 where no row on i and j changes it. Many columns have 0 at a row's qudits; to skip them by a branch for each is slow, as it is often guessed wrongly.
-fn changing(t: &Table, i: usize, j: usize, d: Modulus, n: Width) -> u32
-    requires places { (i < n) × (j < n) }
-    ensures word { result ≡ word_of (changing d i j (table_view n t.now)) }
-    ensures few { n ≤ 16 }
-{
-    let m = 2 * n.value();
-    let mut word: u32 = 0;
-    for c in 0..m {
-        word = word | (changes(&t.columns[c], i, j, d) << c);
-    }
-    word
-}
-
 // Below, TWO says whether the kind of the row takes two qudits.
-
-// The second qudit of the row, counted from 0: the first again where the kind takes one.
-fn other<const TWO: bool>(row: Row) -> usize
-    requires sort { takes_two row.kind ≡ TWO }
-    requires from_one { (1 ≤ row.first) × (TWO ≡ true → 1 ≤ row.second) }
-    ensures { result ≡ other_of (view_row row) }
-{
-    if TWO {
-        return row.second as usize - 1;
-    }
-    row.first as usize - 1
-}
 
 // What the row makes of the numbers that it touches.
 fn act<const TWO: bool>(row: Ready, t: Touched, d: Modulus) -> Touched
@@ -214,46 +159,100 @@ fn act<const TWO: bool>(row: Ready, t: Touched, d: Modulus) -> Touched
     row.act_one(t, d)
 }
 
-// A legal row on i and j put behind a column.
-fn put<const TWO: bool>(c: &mut Column, row: Ready, i: usize, j: usize, d: Modulus)
-    requires sort { takes_two row.row.kind ≡ TWO }
-    requires places { ((i < 16) × (j < 16)) × ((i ≡ row.row.first - 1) × (j ≡ other_of (view_row row.row))) }
-    requires legal { ((n : ℕ) × (legal_row d n (view_row row.row) ≡ true)) × InverseRight d row }
-    ensures { (n : ℕ) → legal_row d n (view_row row.row) ≡ true → column_view n c.new ≡ apply d (meant (view_row row.row)) (column_view n c.old) }
-{
-    replace(c, i, j, act::<TWO>(row, touched(c, i, j), d));
-}
+impl Column {
+    // The numbers that a row on i and j touches.
+    #[tactic(auto, using(crate::proofs::Views::column_touched))]
+    fn touched(&self, i: usize, j: usize) -> Touched
+        requires { (i < 16) × (j < 16) }
+        ensures { (n : ℕ) → i < n → j < n → touched i j (column_view n self.now) ≡ view_touched result }
+    {
+        Touched {
+            phase: self.phase,
+            vi: self.v[i],
+            wi: self.w[i],
+            vj: self.v[j],
+            wj: self.w[j],
+        }
+    }
 
-// A legal row put behind every column in use that it changes: `rest` has the bits of those from `at` on. The loop goes from one set bit to the next: an iterator over them would be this loop again, as a type of its own.
-fn put_rows<const TWO: bool>(t: &mut Table, row: Ready, d: Modulus, n: Width)
-    requires sort { takes_two row.row.kind ≡ TWO }
-    requires legal { (legal_row d n (view_row row.row) ≡ true) × InverseRight d row }
-    ensures { table_view n t.new ≡ map (apply d (meant (view_row row.row))) (table_view n t.old) }
-{
-    let i = row.row.first as usize - 1;
-    let j = other::<TWO>(row.row);
-    let mut rest = changing(t, i, j, d, n);
-    let mut at = 0;
-    while rest != 0 {
-        let skipped = u32::trailing_zeros(rest);
-        at += skipped as usize;
-        let columns = &mut t.columns;
-        put::<TWO>(&mut columns[at], row, i, j, d);
-        at += 1;
-        rest = rest >> skipped >> 1;
+    // Puts others in their place.
+    #[tactic(auto, using(crate::proofs::Views::column_replaced))]
+    fn replace(&mut self, i: usize, j: usize, t: Touched)
+        requires { (i < 16) × (j < 16) }
+        ensures { (n : ℕ) → column_view n self.new ≡ replaced i j (view_touched t) (column_view n self.old) }
+    {
+        self.phase = t.phase;
+        self.v[i] = t.vi;
+        self.w[i] = t.wi;
+        self.v[j] = t.vj;
+        self.w[j] = t.wj;
+    }
+
+    // 0 for a column that no row on i and j changes, 1 for any other.
+    fn changes(&self, i: usize, j: usize, d: Modulus) -> u32
+        requires { (i < 16) × (j < 16) }
+        ensures { (n : ℕ) → i < n → j < n → result ≡ changes d i j (column_view n self.now) }
+    {
+        u32::from(!self.touched(i, j).still(d))
+    }
+
+    // A legal row on i and j put behind the column.
+    fn put<const TWO: bool>(&mut self, row: Ready, i: usize, j: usize, d: Modulus)
+        requires sort { takes_two row.row.kind ≡ TWO }
+        requires places { ((i < 16) × (j < 16)) × ((i ≡ row.row.first - 1) × (j ≡ other_of (view_row row.row))) }
+        requires legal { ((n : ℕ) × (legal_row d n (view_row row.row) ≡ true)) × InverseRight d row }
+        ensures { (n : ℕ) → legal_row d n (view_row row.row) ≡ true → column_view n self.new ≡ apply d (meant (view_row row.row)) (column_view n self.old) }
+    {
+        self.replace(i, j, act::<TWO>(row, self.touched(i, j), d));
     }
 }
 
-// A legal row put behind every column in use, in place. The kinds on one qudit and on two have a loop each, in which fewer numbers are read and written.
-#[tactic(auto, using(gates::proofs::Written::legal_unit))]
-pub fn put_columns(t: &mut Table, row: Row, d: Modulus, n: Width)
-    requires legal { legal_row d n (view_row row) ≡ true }
-    ensures { table_view n t.new ≡ map (apply d (meant (view_row row))) (table_view n t.old) }
-{
-    let ready = row.ready(d);
-    if gates::takes_two(row.kind) {
-        put_rows::<true>(t, ready, d, n);
-    } else {
-        put_rows::<false>(t, ready, d, n);
+impl Table {
+    // A bit for each column in use: 0 where no row on i and j changes it. Many columns have 0 at a row's qudits; to skip them by a branch for each is slow, as the processor often guesses it wrongly.
+    fn changing(&self, i: usize, j: usize, d: Modulus, n: Width) -> u32
+        requires places { (i < n) × (j < n) }
+        ensures word { result ≡ word_of (changing d i j (table_view n self.now)) }
+        ensures few { n ≤ 16 }
+    {
+        let m = 2 * n.value();
+        let mut word: u32 = 0;
+        for c in 0..m {
+            word |= (self.columns[c].changes(i, j, d) << c);
+        }
+        word
+    }
+
+    // A legal row put behind every column in use that it changes: `rest` has the bits of those from `at` on. The loop goes from one set bit to the next: an iterator over them would be this loop again, as a type of its own.
+    fn put_ready<const TWO: bool>(&mut self, row: Ready, d: Modulus, n: Width)
+        requires sort { takes_two row.row.kind ≡ TWO }
+        requires legal { (legal_row d n (view_row row.row) ≡ true) × InverseRight d row }
+        ensures { table_view n self.new ≡ map (apply d (meant (view_row row.row))) (table_view n self.old) }
+    {
+        let i = row.row.first as usize - 1;
+        let j = row.row.other();
+        let mut rest = self.changing(i, j, d, n);
+        let mut at = 0;
+        while rest != 0 {
+            let skipped = u32::trailing_zeros(rest);
+            at += skipped as usize;
+            let columns = &mut self.columns;
+            columns[at].put::<TWO>(row, i, j, d);
+            at += 1;
+            rest = rest >> skipped >> 1;
+        }
+    }
+
+    // A legal row put behind every column in use, in place. The kinds on one qudit and on two have a loop each, in which fewer numbers are read and written.
+    #[tactic(auto, using(gates::proofs::Written::legal_unit))]
+    pub fn put(&mut self, row: Row, d: Modulus, n: Width)
+        requires legal { legal_row d n (view_row row) ≡ true }
+        ensures { table_view n self.new ≡ map (apply d (meant (view_row row))) (table_view n self.old) }
+    {
+        let ready = row.ready(d);
+        if gates::takes_two(row.kind) {
+            self.put_ready::<true>(ready, d, n);
+        } else {
+            self.put_ready::<false>(ready, d, n);
+        }
     }
 }

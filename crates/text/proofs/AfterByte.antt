@@ -12,7 +12,7 @@ use lib.ListN.{length, get_or, drop}
 use lib.Seq.{drop-cons}
 use Rattle.text.specs.Inner.Scan.{Within, used, value_of, grown_of, letter_due, in_head, after_line, with_field, comma_of, head_comma, body_comma, line_of, head_line, body_line, ended_of, after_byte, out_after_byte, scanned}
 use Rattle.text.specs.declared.reading.Field.{Field}
-use Rattle.text.specs.declared.reading.Field.TheVariants.{Empty, Number, Whole}
+use Rattle.text.specs.declared.reading.Field.TheVariants.{Empty, Number, Zero, Letter}
 use Rattle.text.specs.declared.reading.Form.{Form}
 use Rattle.text.specs.declared.reading.State.{State}
 
@@ -25,12 +25,14 @@ by_cond P false p q = q
 pub used_one : (f : Field) (x : ℕ) → value_of f ≡ Some x → used f ≡ 1
 used_one Empty x e = cc
 used_one (Number y) x e = refl
-used_one (Whole y) x e = refl
+used_one Zero x e = refl
+used_one (Letter k) x e = refl
 
 used_le : (f : Field) → used f ≤ 1
 used_le Empty = omega arith
 used_le (Number y) = omega arith
-used_le (Whole y) = omega arith
+used_le Zero = omega arith
+used_le (Letter k) = omega arith
 
 within_comma : (i : ℕ) (s : State) (x : ℕ) → Within i s → used s.field ≡ 1 → Within (i + 1) (comma_of s x)
 unfolding comma_of

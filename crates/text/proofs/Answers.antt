@@ -2,17 +2,17 @@
 use mathlib.Core.Path.{◌≡◌, refl, sym, ap, ◌∙◌}
 use mathlib.Core.Bool.{true}
 use mathlib.Core.Logic.{◌⊎◌, inl, inr, ⊎_elim, ◌≢◌}
-use mathlib.Core.List.{List, [], ◌∷◌, ◌++◌, append-nil}
+use mathlib.Core.List.{List, [], ◌∷◌, append-nil}
 use Rattle.std.specs.Prelude.{Option, None, Some}
 use Rattle.std.specs.Option.{option_map, option_and_then}
 use Prim.Native.Nat.{ℕ, ◌+◌, ◌-◌, ◌≤◌, ◌<◌}
-use native.Mathlib.Nat.{add-zero, zero-add}
+use native.Mathlib.Nat.{add-zero}
 use native.Mathlib.Omega.{arith}
 use lib.ListN.{length, get_or, take, drop, length-drop}
-use lib.Seq.{sets, sets-eq, take_at}
+use lib.Seq.{sets, take_at}
 use Rattle.std.proofs.lemmas.Option.{none-some}
-use Rattle.arith.specs.Bytes.{bytes_of, front}
-use Rattle.arith.proofs.Bytes.{bytes_length}
+use Rattle.arith.specs.Bytes.{bytes_of}
+use Rattle.arith.proofs.Bytes.{bytes_length, write_front}
 use Rattle.arith.proofs.Cases.{by_eq}
 use Rattle.gates.specs.Written.{WrittenRow, row_numbers}
 use Rattle.text.specs.Format.{line, concatenated, File, tableau_file, list_file, partner_file, FileFits, print_file, LaidOut}
@@ -97,16 +97,13 @@ within_text (a ∷ b ∷ u) out h =
     let e : length (a ∷ b ∷ u) ≡ 2 + length u = omega arith in
     rw e (within_opened (opening_of a b) u out)
 
-written : (out a : List ℕ) → length a ≤ length out → sets out 0 a ≡ front a out
-written out a h = sets-eq a out 0 (omega arith) ∙ ap (λ (k : ℕ). a ++ drop k out) (zero-add (length a))
-
 -- the answer for a file that is laid out
 reads_file : (text out : List ℕ) (f : File) → LaidOut text f → length (bytes_of (file_numbers f)) ≤ length out
     → Reads text out (Some (reading_of f)) (sets out 0 (bytes_of (file_numbers f)))
 reads_file text out (tableau_file d n cs) h r =
-    record { columns = cs; laid = h; counted = refl; sized = refl; holds = written out (bytes_of (file_numbers (tableau_file d n cs))) r }
-reads_file text out (list_file d n rs) h r = record { rows = rs; laid = h; counted = refl; holds = written out (bytes_of (concatenated row_numbers rs)) r }
-reads_file text out (partner_file d n rs) h r = record { rows = rs; laid = h; counted = refl; holds = written out (bytes_of (concatenated row_numbers rs)) r }
+    record { columns = cs; laid = h; counted = refl; sized = refl; holds = write_front out (bytes_of (file_numbers (tableau_file d n cs))) r }
+reads_file text out (list_file d n rs) h r = record { rows = rs; laid = h; counted = refl; holds = write_front out (bytes_of (concatenated row_numbers rs)) r }
+reads_file text out (partner_file d n rs) h r = record { rows = rs; laid = h; counted = refl; holds = write_front out (bytes_of (concatenated row_numbers rs)) r }
 
 -- an L text's file is a G file of the same rows once its first byte is G's
 partner_text : (u : List ℕ) → Printed (76 ∷ u) → Printed (71 ∷ u)

@@ -10,10 +10,14 @@ use lib.ListN.{length, length-append}
 use borrow.Author.Tests.{ltb-true, ltb-false, lt-ltb, le-ltb, ne_eqb}
 use Rattle.std.specs.Fmt as std
 use Rattle.std.proofs.lemmas.Fmt.{decimal_by_steps}
+use Rattle.gates.specs.Kind.{kind_number}
+use Rattle.gates.specs.declared.kind.Kind.{Kind}
+use Rattle.gates.specs.declared.kind.Kind.TheVariants as kind
 use Rattle.text.specs.Format.{decimal, digits, letter_of, Fits, KindFits}
 use Rattle.text.specs.Inner.Scan.{kind_of, letter_field, first_digit, next_digit, value_of}
 use Rattle.text.specs.declared.reading.Field.{Field}
-use Rattle.text.specs.declared.reading.Field.TheVariants.{Number, Whole}
+use Rattle.text.specs.declared.reading.Field.TheVariants.{Number, Zero}
+use Rattle.text.specs.declared.reading.Field.TheVariants as field
 
 pub decimal_low : (k x : ℕ) → x < 10 → decimal k x ≡ (48 + x) ∷ []
 unfolding decimal
@@ -82,7 +86,7 @@ five_digits x h =
 
 -- ---- what a number's field is
 pub number_field : ℕ → Field
-number_field x = cond (eqb x 0) (Whole 0) (Number x)
+number_field x = cond (eqb x 0) Zero (Number x)
 
 pub number_some : (x : ℕ) → 0 < x → number_field x ≡ Number x
 unfolding number_field
@@ -120,18 +124,20 @@ by_kind P a b c d e f g h (suc (suc (suc (suc (suc (suc (suc (suc zero)))))))) l
 by_kind P a b c d e f g h (suc (suc (suc (suc (suc (suc (suc (suc (suc k))))))))) l = absurd (omega arith)
 
 pub record Letter (k : ℕ) : Type 0 where
-  pub back : letter_field (letter_of k) ≡ Some (Whole k)
+  pub kind : Kind
+  pub number : kind_number kind ≡ k
+  pub back : letter_field (letter_of k) ≡ Some (field.Letter kind)
   pub no_comma : letter_of k ≡ 44 → ⊥
   pub no_end : letter_of k ≡ 10 → ⊥
 
 pub letter : (k : ℕ) → KindFits k → Letter k
 unfolding letter_field letter_of kind_of
 letter = by_kind Letter
-    (record { back = refl; no_comma = λ e. omega arith; no_end = λ e. omega arith })
-    (record { back = refl; no_comma = λ e. omega arith; no_end = λ e. omega arith })
-    (record { back = refl; no_comma = λ e. omega arith; no_end = λ e. omega arith })
-    (record { back = refl; no_comma = λ e. omega arith; no_end = λ e. omega arith })
-    (record { back = refl; no_comma = λ e. omega arith; no_end = λ e. omega arith })
-    (record { back = refl; no_comma = λ e. omega arith; no_end = λ e. omega arith })
-    (record { back = refl; no_comma = λ e. omega arith; no_end = λ e. omega arith })
-    (record { back = refl; no_comma = λ e. omega arith; no_end = λ e. omega arith })
+    (record { kind = kind.F; number = refl; back = refl; no_comma = λ e. omega arith; no_end = λ e. omega arith })
+    (record { kind = kind.S; number = refl; back = refl; no_comma = λ e. omega arith; no_end = λ e. omega arith })
+    (record { kind = kind.A; number = refl; back = refl; no_comma = λ e. omega arith; no_end = λ e. omega arith })
+    (record { kind = kind.M; number = refl; back = refl; no_comma = λ e. omega arith; no_end = λ e. omega arith })
+    (record { kind = kind.X; number = refl; back = refl; no_comma = λ e. omega arith; no_end = λ e. omega arith })
+    (record { kind = kind.Z; number = refl; back = refl; no_comma = λ e. omega arith; no_end = λ e. omega arith })
+    (record { kind = kind.C; number = refl; back = refl; no_comma = λ e. omega arith; no_end = λ e. omega arith })
+    (record { kind = kind.W; number = refl; back = refl; no_comma = λ e. omega arith; no_end = λ e. omega arith })

@@ -1,16 +1,17 @@
 -- The letters of kinds: those of the format are those that gates gives to a kind and a kind to. Assumes nothing.
 use mathlib.Core.Path.{◌≡◌, refl, sym, ap, ◌∙◌}
 use Prim.Native.Nat.{ℕ}
-use Rattle.std.specs.Prelude.{None, Some}
+use Rattle.std.specs.Prelude.{None, Some, Result, Ok, Err, MatchResult}
+use Rattle.arith.specs.declared.checks.Refusal.{Refusal}
 use borrow.Author.Tests.{ne_eqb}
-use Rattle.gates.specs.Kind.{kind_number, kind_letter, NoKind}
+use Rattle.gates.specs.Kind.{kind_number, kind_letter, NoKind, NumberedKind}
 use Rattle.gates.specs.declared.kind.Kind.{Kind}
 use Rattle.gates.specs.declared.kind.Kind.TheVariants as kind
 use Rattle.text.specs.Format.{letter_of}
 use Rattle.text.specs.Inner.Scan.{kind_of, letter_field}
-use Rattle.text.specs.declared.reading.Field.TheVariants.{Whole}
+use Rattle.text.specs.declared.reading.Field.TheVariants.{Letter}
 
-field_of : (k : Kind) → letter_field (kind_letter k) ≡ Some (Whole (kind_number k))
+field_of : (k : Kind) → letter_field (kind_letter k) ≡ Some (Letter k)
 unfolding letter_field kind_of
 field_of kind.F = refl
 field_of kind.S = refl
@@ -22,7 +23,7 @@ field_of kind.C = refl
 field_of kind.W = refl
 
 -- a letter's field holds its kind, and what is no letter is no field
-pub letter_kind : (b : ℕ) (k : Kind) → kind_letter k ≡ b → letter_field b ≡ Some (Whole (kind_number k))
+pub letter_kind : (b : ℕ) (k : Kind) → kind_letter k ≡ b → letter_field b ≡ Some (Letter k)
 letter_kind b k e = ap letter_field (sym e) ∙ field_of k
 
 pub letter_none : (b : ℕ) → NoKind kind_letter b → letter_field b ≡ None
@@ -38,7 +39,7 @@ letter_none b h = rw (
   ne_eqb b 87 (λ e. h kind.W (sym e)),
 )
 
-number_letter : (k : Kind) → letter_of (kind_number k) ≡ kind_letter k
+pub number_letter : (k : Kind) → letter_of (kind_number k) ≡ kind_letter k
 unfolding letter_of
 number_letter kind.F = refl
 number_letter kind.S = refl
@@ -65,3 +66,8 @@ no_letter x h = rw (
   ne_eqb x 7 (λ e. h kind.C (sym e)),
   ne_eqb x 8 (λ e. h kind.W (sym e)),
 )
+
+-- and what is found of it by its kind, or 0
+pub letter_found : {P : Kind → Type 0} (x y : ℕ) (r : Result Kind Refusal) → NumberedKind x r → MatchResult r P (λ e. y ≡ 0) → ((k : Kind) → P k → y ≡ kind_letter k) → y ≡ letter_of x
+letter_found x y (Ok k) n m h = h k m ∙ sym (letter_number x k n)
+letter_found x y (Err e) n m h = m ∙ sym (no_letter x n.1)

@@ -5,6 +5,7 @@ pub mod Simulate
 pub mod Sound
 pub mod Answers
 pub mod Writing
+pub mod Columns
 pub mod Unique
 pub mod Back
 pub mod Lists

@@ -14,13 +14,14 @@ use Rattle.arith.specs.Answers.{Written}
 use Rattle.arith.specs.declared.checks.Refusal.{Refusal}
 use Rattle.arith.specs.declared.checks.Refusal.TheVariants.{Length}
 use Rattle.std.specs.Prelude.{Result, Ok, Err}
+use Rattle.std.specs.Borrow.{MutBor}
 use Rattle.arith.specs.Refusals.{refusal_number, number_of, or_else, given_of, whole_of, list_size_of, room_of, row_of, unless_holds}
-use Rattle.arith.proofs.Refusals.{good, not_zero, or_else_past, given_good}
+use Rattle.arith.proofs.Refusals.{not_zero, or_else_past, given_good}
 use Rattle.arith.proofs.Passes.{room_passes}
 use Rattle.pauli.specs.Pauli.{Pauli}
 use Rattle.pauli.specs.Bytes.{numbers_of}
 use Rattle.pauli.proofs.Ranges.{entries_length}
-use Rattle.gates.specs.Written.{WrittenRow, meant, all_legal_rows, list_rows, row_numbers, list_numbers}
+use Rattle.gates.specs.Written.{WrittenRow, meant, all_legal_rows, list_rows}
 use Rattle.gates.proofs.Written.{all_legal_meant}
 use Rattle.tableau.specs.Tableau.{tableau_of, AllInRange, none, more, WellFormed}
 use Rattle.tableau.specs.Bytes.{tableau_bytes, tableau_numbers, encode_tableau}
@@ -45,18 +46,12 @@ printed_room {text} {old} p = omega (arith, p.counts, ap length p.fronts, length
 pub front_length : (k : ℕ) (l : List ℕ) → k ≤ length l → k ≡ length (take k l)
 front_length k l h = sym (length-take-le k l h)
 
-pub front_room : (k : ℕ) (l : List ℕ) → k ≤ length l → k ≤ length (take k l)
-front_room k l h = omega (arith, length-take-le k l h)
-
 -- ---- what a function that converts answers
 -- a refusal's number is not 0
 pub refused_some : (k : Refusal) → refusal_number k ≢ 0
 refused_some k e = not_zero {A = ℕ} {r = Err k} e refl
 
--- ---- what a call's number says: it is done where the number is 0, and refused where it isn't
-pub done_none : {A : Type 0} (x : ℕ) {r : Result A Refusal} {a : A} → number_of r ≡ x → r ≡ Ok a → x ≡ 0
-done_none x e g = good x e g
-
+-- ---- what a call's number says: it is done where the number is 0 (and only there: `good` of arith), and refused where it isn't
 pub none_done : {A : Type 0} (r : Result A Refusal) → number_of r ≡ 0 → (a : A) × (r ≡ Ok a)
 none_done (Ok a) e = (a, refl)
 none_done (Err k) e = absurd (refused_some k e)
@@ -66,8 +61,8 @@ some_refused (Ok a) h = absurd (h refl)
 some_refused (Err k) h = (k, refl)
 
 -- what holds of whatever P holds of
-pub outputs_as : {P Q : List ℕ → Type 0} {r : Result ℕ Refusal} {out : List ℕ} → ((output : List ℕ) → P output → Q output) → Outputs P r out → Outputs Q r out
-outputs_as {r = r} {out = out} f h = record { inside = h.inside; holds = f (printed_of r out) h.holds }
+pub outputs_as : {P Q : List ℕ → Type 0} {r : Result ℕ Refusal} {old new : MutBor (List ℕ)} → ((output : List ℕ) → P output → Q output) → Outputs P r old new → Outputs Q r old new
+outputs_as {r = r} {new = new} f h = record { output = h.output; inside = h.inside; holds = f (printed_of r new.now) h.holds }
 
 -- ---- the refusals of a list are those of its rows
 list_size : (k : ℕ) → list_size_of (8 * k) ≡ row_count_of k
@@ -76,11 +71,6 @@ list_size k =
     let e : eqb (8 * k % 8) 0 ≡ true = eq-eqb (8 * k % 8) 0 (omega arith) in
     let f : 8 * k / 8 ≡ k = omega arith in
     ap₂ (λ (a b : Bool). unless_holds Length (a && b)) e (ap (λ (m : ℕ). leb m 4096) f)
-
-pub rows_concatenated : (rows : List WrittenRow) → concatenated row_numbers rows ≡ list_numbers rows
-unfolding concatenated list_numbers
-rows_concatenated [] = refl
-rows_concatenated (w ∷ ws) = ap (λ (l : List ℕ). row_numbers w ++ l) (rows_concatenated ws)
 
 pub rows_size : (list : List ℕ) (rows : List WrittenRow) → length list ≡ 8 * length rows → list_size_of (length list) ≡ row_count_of (length rows)
 rows_size list rows l = ap list_size_of l ∙ list_size (length rows)

@@ -1,9 +1,10 @@
 -- Laws of a partner's rows (document 02, P3): what each is translated to, that it is legal, and that translating twice gives it back. Assumes nothing.
 use mathlib.Core.Path.{◌≡◌, refl, sym, ap, ◌∙◌}
 use mathlib.Core.Logic.{◌⊎◌, inl, inr, ◌≢◌}
-use mathlib.Core.Bool.{true, false, not}
+use mathlib.Core.Bool.{Bool, true, false, not}
+use Rattle.std.specs.Prelude.{Result, Ok, Err, MatchResult}
 use Rattle.std.proofs.lemmas.Bool.{false≢true}
-use Rattle.gates.specs.Kind.{kind_number, NoKind}
+use Rattle.gates.specs.Kind.{kind_number, NoKind, NumberedKind}
 use Rattle.gates.specs.declared.kind.Kind.{Kind}
 use Rattle.gates.specs.declared.kind.Kind.TheVariants as kind
 use Rattle.text.specs.Inner.FromBytes.{undone_of}
@@ -12,6 +13,7 @@ use Prim.Native.Nat.{ℕ, zero, suc, ◌+◌, ◌-◌, ◌≤◌, ◌<◌}
 use native.Mathlib.Nat.{mul_comm}
 use native.Mathlib.Omega.{arith}
 use lib.Dec.{eqb}
+use Rattle.arith.specs.declared.checks.Refusal.{Refusal}
 use Rattle.arith.specs.Gcd.{gcd}
 use Rattle.arith.specs.Units.{inverse_of}
 use Rattle.arith.proofs.Cases.{by_eq}
@@ -28,7 +30,7 @@ use Rattle.text.specs.Partner.{legal_partner, our_power, translated}
 abbrev pub Changes : ℕ → Type 0
 Changes kind = (kind ≡ 3) ⊎ ((kind ≡ 4) ⊎ (kind ≡ 5))
 
--- they are 3 to 5, as the code tests them
+-- they are 3 to 5
 pub changes : (kind : ℕ) → 3 ≤ kind → kind ≤ 5 → Changes kind
 changes kind l h = by_eq kind 3 inl (λ a. inr (by_eq kind 4 inl (λ b. inr (omega arith))))
 
@@ -65,6 +67,12 @@ pub no_kind_stays : (x : ℕ) → NoKind kind_number x → Changes x → ⊥
 no_kind_stays x h (inl e) = h kind.A (sym e)
 no_kind_stays x h (inr (inl e)) = h kind.M (sym e)
 no_kind_stays x h (inr (inr e)) = h kind.X (sym e)
+
+-- and by what is found of a kind's number
+pub found_undone : {P : Kind → Type 0} (x : ℕ) (r : Result Kind Refusal) {b : Bool} → NumberedKind x r → MatchResult r P (λ e. b ≡ false) → ((k : Kind) → P k → b ≡ undone_of k)
+    → (b ≡ true → Changes x) × (b ≡ false → Changes x → ⊥)
+found_undone x (Ok k) n m h = (λ e. rw n at (undone_changes k (sym (h k m) ∙ e)), λ e. rw n at (kept_stays k (sym (h k m) ∙ e)))
+found_undone x (Err k) n m h = (λ e. absurd (false≢true (sym m ∙ e)), λ e. no_kind_stays x n.1)
 
 pub by_changes : {P : Type 0} (kind : ℕ) → (Changes kind → P) → ((Changes kind → ⊥) → P) → P
 by_changes {P} kind f g = by_eq kind 3 (λ e. f (inl e)) (λ a. by_eq kind 4 (λ e. f (inr (inl e))) (λ b. by_eq kind 5 (λ e. f (inr (inr e))) (λ c. g (none a b c))))

@@ -1,6 +1,6 @@
 -- The scan of the print of a file: it ends in the state that the file says. Assumes nothing.
 use mathlib.Core.Path.{◌≡◌, refl, sym, ap, ap₂, ◌∙◌}
-use mathlib.Core.Bool.{Bool, true, false, ◌&&◌, and-true}
+use mathlib.Core.Bool.{Bool, true, false, ◌&&◌, and-true, and_assoc}
 use mathlib.Core.List.{List, [], ◌∷◌, ◌++◌, map, append_assoc}
 use Rattle.std.specs.Prelude.{Option, Some}
 use Prim.Native.Nat.{ℕ, zero, suc, ◌+◌, ◌*◌, ◌/◌, ◌%◌, ◌≤◌, ◌<◌}
@@ -19,7 +19,8 @@ use Rattle.text.specs.Inner.Scan.{Held, with_field, scanned, after_byte, out_aft
 use Rattle.text.specs.declared.reading.Form.{Form}
 use Rattle.text.specs.declared.reading.Form.TheVariants.{TableHead, ListHead, Column, GateRow}
 use Rattle.text.specs.declared.reading.Field.{Field}
-use Rattle.text.specs.declared.reading.Field.TheVariants.{Empty, Number, Whole}
+use Rattle.text.specs.declared.reading.Field.TheVariants.{Empty, Number}
+use Rattle.text.specs.declared.reading.Field.TheVariants as field
 use Rattle.text.specs.declared.reading.State.{State}
 use Rattle.text.proofs.Digits.{decimal_low, decimal_high, number_field, number_some, value_number, first_digit_lem, next_digit_lem, Letter, letter}
 
@@ -88,8 +89,8 @@ line_end x s t out u due fit l = rw append_assoc (field_line x s t out u due fit
 letter_comma : (k : ℕ) (s : State) (out u : List ℕ) → letter_due s.form s.place ≡ true → Letter k
     → scanned (with_field s Empty) out (letter_of k ∷ 44 ∷ u) ≡ scanned (comma_of s k) (kept_of s.form s.count k out) u
 letter_comma k s out u due l =
-    scanned_inside s Empty (Whole k) out (letter_of k) (44 ∷ u) l.no_comma l.no_end (rw due l.back)
-    ∙ scanned_comma s (Whole k) k out u refl
+    scanned_inside s Empty (field.Letter l.kind) out (letter_of k) (44 ∷ u) l.no_comma l.no_end (rw due l.back)
+    ∙ scanned_comma s (field.Letter l.kind) k out u (ap Some l.number)
 
 -- ---- lines
 abbrev pub st : Form → ℕ → ℕ → ℕ → ℕ → ℕ → Bool → State
@@ -114,10 +115,6 @@ column_scanned d n l p c e c' p' x (y ∷ ys) out u hc hp fits =
     line_comma x (st Column d n l p c e) out (line (map digits (y ∷ ys))) u refl fits.0
     ∙ column_scanned d n l (p + 1) (c + 1) e c' p' y ys (sets out (2 * c) (bytes_of (x ∷ []))) u (omega arith) (omega arith) fits.1
     ∙ ap (λ (o : List ℕ). scanned (st Column d n (l + 1) 0 c' (e && eqb p' (2 * n))) o u) (next_number out c x (y ∷ ys))
-
-and_assoc : (a b c : Bool) → ((a && b) && c) ≡ (a && (b && c))
-and_assoc true b c = refl
-and_assoc false b c = refl
 
 eqb_more : (m k : ℕ) → eqb m k ≡ eqb (suc m) (1 + k)
 eqb_more m k = rw (one-add k) (sym (eqb-suc-suc m k))

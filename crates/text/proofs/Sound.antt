@@ -11,6 +11,9 @@ use native.Mathlib.Omega.{arith}
 use lib.Dec.{ltb, eqb}
 use lib.ListN.{length, length-append}
 use borrow.Author.Tests.{ltb-false, eqb-true, eqb-false, ne_eqb}
+use Rattle.gates.specs.Kind.{kind_number, kind_letter}
+use Rattle.gates.specs.declared.kind.Kind.{Kind}
+use Rattle.gates.specs.declared.kind.Kind.TheVariants as kind
 use Rattle.gates.specs.Written.{WrittenRow}
 use Rattle.text.specs.Format.{digits, line, letter_of, File, tableau_file, list_file, header, row_line, column_line, concatenated, Every, Fits, KindFits, ColumnFits, RowFits, FileFits, print_file}
 use Rattle.text.specs.Inner.Reads.{answer_at, answer_of}
@@ -18,17 +21,18 @@ use Rattle.text.specs.Inner.Scan.{kind_of, letter_field, first_digit, next_digit
 use Rattle.text.specs.declared.reading.Form.{Form}
 use Rattle.text.specs.declared.reading.Form.TheVariants.{TableHead, ListHead, Column, GateRow}
 use Rattle.text.specs.declared.reading.Field.{Field}
-use Rattle.text.specs.declared.reading.Field.TheVariants.{Empty, Number, Whole}
+use Rattle.text.specs.declared.reading.Field.TheVariants.{Empty, Number, Zero, Letter}
 use Rattle.text.specs.declared.reading.State.{State}
 use Rattle.text.proofs.Digits.{digits_low, digits_more}
+use Rattle.text.proofs.Letters.{number_letter}
 
 -- ---- fields
 -- w is the text of the field, which is a letter's where `due` says so
 abbrev pub Holds : Bool → Field → List ℕ → Type 0
 Holds due Empty w = w ≡ []
 Holds due (Number x) w = ((due ≡ false) × ((0 < x) × Fits x)) × (w ≡ digits x)
-Holds true (Whole k) w = KindFits k × (w ≡ letter_of k ∷ [])
-Holds false (Whole x) w = (x ≡ 0) × (w ≡ digits x)
+Holds due Zero w = (due ≡ false) × (w ≡ digits 0)
+Holds due (Letter k) w = (due ≡ true) × (w ≡ kind_letter k ∷ [])
 
 -- the same of the field that comes next, where there is one
 abbrev pub HoldsNext : Bool → Option Field → List ℕ → Type 0
@@ -46,34 +50,22 @@ test P true a b = a refl
 test P false a b = b refl
 
 -- a letter that has a kind is that kind's letter
-letter_or : (b c k rest : ℕ) → KindFits k → c ≡ letter_of k → ((rest ≡ 0 → ⊥) → Word true rest (b ∷ []))
-    → (cond (eqb b c) k rest ≡ 0 → ⊥) → Word true (cond (eqb b c) k rest) (b ∷ [])
-letter_or b c k rest r l next =
-    test (λ (t : Bool). (cond t k rest ≡ 0 → ⊥) → Word true (cond t k rest) (b ∷ [])) (eqb b c)
-    (λ e g. (r, ap (λ (x : ℕ). x ∷ []) (eqb-true b c e ∙ l))) (λ e g. next g)
-
-letter_back : (b : ℕ) → (kind_of b ≡ 0 → ⊥) → Word true (kind_of b) (b ∷ [])
-unfolding kind_of letter_of
-letter_back b =
-    letter_or b 70 1 _ (omega arith) refl
-    (letter_or b 83 2 _ (omega arith) refl
-    (letter_or b 65 3 _ (omega arith) refl
-    (letter_or b 77 4 _ (omega arith) refl
-    (letter_or b 88 5 _ (omega arith) refl
-    (letter_or b 90 6 _ (omega arith) refl
-    (letter_or b 67 7 _ (omega arith) refl
-    (letter_or b 87 8 0 (omega arith) refl (λ g. absurd (g refl)))))))))
+letter_or : (b : ℕ) (k : Kind) (rest : Option Kind) → HoldsNext true (option_map Letter rest) (b ∷ []) → HoldsNext true (option_map Letter (cond (eqb b (kind_letter k)) (Some k) rest)) (b ∷ [])
+letter_or b k rest next =
+    test (λ (t : Bool). HoldsNext true (option_map Letter (cond t (Some k) rest)) (b ∷ [])) (eqb b (kind_letter k))
+    (λ e. (refl, ap (λ (x : ℕ). x ∷ []) (eqb-true b (kind_letter k) e))) (λ e. next)
 
 grown_letter : (b : ℕ) → HoldsNext true (letter_field b) (b ∷ [])
-unfolding letter_field
-grown_letter b = test (λ (t : Bool). HoldsNext true (cond t None (Some (Whole (kind_of b)))) (b ∷ [])) (eqb (kind_of b) 0) (λ e. tt) (λ e. letter_back b (eqb-false (kind_of b) 0 e))
+unfolding letter_field kind_of
+grown_letter b =
+    letter_or b kind.F _ (letter_or b kind.S _ (letter_or b kind.A _ (letter_or b kind.M _ (letter_or b kind.X _ (letter_or b kind.Z _ (letter_or b kind.C _ (letter_or b kind.W None tt)))))))
 
 grown_first : (b : ℕ) → HoldsNext false (first_digit b) (b ∷ [])
 unfolding first_digit
 grown_first b =
-    test (λ (t : Bool). HoldsNext false (cond t None (cond (ltb 57 b) None (cond (eqb b 48) (Some (Whole 0)) (Some (Number (b - 48)))))) (b ∷ [])) (ltb b 48) (λ e. tt) (λ e1.
-    test (λ (t : Bool). HoldsNext false (cond t None (cond (eqb b 48) (Some (Whole 0)) (Some (Number (b - 48))))) (b ∷ [])) (ltb 57 b) (λ e. tt) (λ e2.
-    test (λ (t : Bool). HoldsNext false (cond t (Some (Whole 0)) (Some (Number (b - 48)))) (b ∷ [])) (eqb b 48)
+    test (λ (t : Bool). HoldsNext false (cond t None (cond (ltb 57 b) None (cond (eqb b 48) (Some Zero) (Some (Number (b - 48)))))) (b ∷ [])) (ltb b 48) (λ e. tt) (λ e1.
+    test (λ (t : Bool). HoldsNext false (cond t None (cond (eqb b 48) (Some Zero) (Some (Number (b - 48))))) (b ∷ [])) (ltb 57 b) (λ e. tt) (λ e2.
+    test (λ (t : Bool). HoldsNext false (cond t (Some Zero) (Some (Number (b - 48)))) (b ∷ [])) (eqb b 48)
     (λ e. (refl, ap (λ (x : ℕ). x ∷ []) (eqb-true b 48 e) ∙ sym (digits_low 0 (omega arith))))
     (λ e3. some (ltb-false b 48 e1) (ltb-false 57 b e2) (eqb-false b 48 e3))))
   where
@@ -102,16 +94,28 @@ grown_holds true Empty b w h = rw h (grown_letter b)
 grown_holds false Empty b w h = rw h (grown_first b)
 grown_holds true (Number v) b w h = grown_next true v b w h
 grown_holds false (Number v) b w h = grown_next false v b w h
-grown_holds true (Whole v) b w h = tt
-grown_holds false (Whole v) b w h = tt
+grown_holds due Zero b w h = tt
+grown_holds due (Letter k) b w h = tt
+
+kind_fits : (k : Kind) → KindFits (kind_number k)
+kind_fits kind.F = omega arith
+kind_fits kind.S = omega arith
+kind_fits kind.A = omega arith
+kind_fits kind.M = omega arith
+kind_fits kind.X = omega arith
+kind_fits kind.Z = omega arith
+kind_fits kind.C = omega arith
+kind_fits kind.W = omega arith
 
 -- the field's end
 pub ended_word : (due : Bool) (f : Field) (w : List ℕ) (x : ℕ) → Holds due f w → value_of f ≡ Some x → Word due x w
 ended_word due Empty w x h e = absurd (let z : ◌≡◌ {A = ℕ} 0 1 = cc in omega arith)
 ended_word true (Number v) w x h e = absurd (let z : ◌≡◌ {A = Bool} true false = h.0.0 in let q : ◌≡◌ {A = ℕ} 0 1 = cc in omega arith)
 ended_word false (Number v) w x h e = let q : v ≡ x = cc in rw (← q) (h.0.1.1, h.1)
-ended_word true (Whole v) w x h e = let q : v ≡ x = cc in rw (← q) h
-ended_word false (Whole v) w x h e = let q : v ≡ x = cc in rw (← q) (omega (arith, h.0), h.1)
+ended_word true Zero w x h e = absurd (let z : ◌≡◌ {A = Bool} true false = h.0 in let q : ◌≡◌ {A = ℕ} 0 1 = cc in omega arith)
+ended_word false Zero w x h e = let q : ◌≡◌ {A = ℕ} 0 x = cc in rw (← q) (omega arith, h.1)
+ended_word true (Letter k) w x h e = let q : kind_number k ≡ x = cc in rw (← q) (kind_fits k, h.1 ∙ ap (λ (b : ℕ). b ∷ []) (sym (number_letter k)))
+ended_word false (Letter k) w x h e = absurd (let z : ◌≡◌ {A = Bool} false true = h.0 in let q : ◌≡◌ {A = ℕ} 0 1 = cc in omega arith)
 
 -- ---- lines
 -- fields of a line that is not ended: each with its comma
@@ -195,7 +199,7 @@ pub header_text : (c d x : ℕ) → (c ∷ 44 ∷ (digits d ++ (44 ∷ []))) ++ 
 unfolding line
 header_text c d x = ap (λ (l : List ℕ). c ∷ 44 ∷ l) (append_assoc (digits d) (44 ∷ []) (digits x ++ (10 ∷ [])))
 
-row_text : (r : WrittenRow) → (letter_of r.kind ∷ 44 ∷ (digits r.first ++ (44 ∷ (digits r.second ++ (44 ∷ []))))) ++ (digits r.power ++ (10 ∷ [])) ≡ row_line r
+pub row_text : (r : WrittenRow) → (letter_of r.kind ∷ 44 ∷ (digits r.first ++ (44 ∷ (digits r.second ++ (44 ∷ []))))) ++ (digits r.power ++ (10 ∷ [])) ≡ row_line r
 unfolding line
 row_text r = simp append_assoc
 
@@ -244,7 +248,8 @@ fresh s t text e b q = record { before = t; word = []; base = b; holds = go (let
     go : (due : Bool) (f : Field) → f ≡ Empty → Holds due f []
     go due Empty z = refl
     go due (Number x) z = absurd (let q : ◌≡◌ {A = ℕ} 0 1 = cc in omega arith)
-    go due (Whole x) z = absurd (let q : ◌≡◌ {A = ℕ} 0 1 = cc in omega arith)
+    go due Zero z = absurd (let q : ◌≡◌ {A = ℕ} 0 1 = cc in omega arith)
+    go due (Letter k) z = absurd (let q : ◌≡◌ {A = ℕ} 0 1 = cc in omega arith)
 
 -- what is known with the state that comes next, where there is one: a text that is not laid out may be any
 abbrev pub KnownNext : Option State → List ℕ → Type 0
@@ -364,4 +369,5 @@ finish s text k = go (letter_due s.form s.place) s.field k.word k.holds k.all
         (λ e. let z : text ≡ k.before = q ∙ rw h (append-nil k.before) in rw z (finish_line s k.base (eqb-true s.place 0 e)))
         (λ e. inr refl)
     go due (Number x) w h q = inr refl
-    go due (Whole x) w h q = inr refl
+    go due Zero w h q = inr refl
+    go due (Letter k) w h q = inr refl

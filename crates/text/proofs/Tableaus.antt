@@ -4,7 +4,7 @@ use mathlib.Core.Logic.{◌↔◌, ◌⊎◌, inl, inr, ◌≢◌}
 use mathlib.Core.Bool.{Bool, true, false}
 use mathlib.Core.List.{List, [], ◌∷◌, ◌++◌, map, append-nil}
 use Rattle.std.specs.Prelude.{Result, Ok, Err}
-use Prim.Native.Nat.{ℕ, suc, ◌+◌, ◌*◌, ◌/◌, ◌≤◌}
+use Prim.Native.Nat.{ℕ, suc, ◌+◌, ◌*◌, ◌≤◌}
 use native.Mathlib.Omega.{arith}
 use lib.ListN.{length, take, length-map, length-append}
 use lib.Seq.{take_at, drop_at}
@@ -20,7 +20,7 @@ use Rattle.arith.proofs.Passes.{size_passes, room_passes}
 use Rattle.pauli.specs.Pauli.{Pauli}
 use Rattle.pauli.specs.Bytes.{decode_at}
 use Rattle.gates.specs.Row.{Row, F, S, A, M, X, Z, C, W, Legal}
-use Rattle.gates.specs.Written.{WrittenRow, written, meant, legal_row, all_rows, all_legal_rows, row_at, list_rows}
+use Rattle.gates.specs.Written.{WrittenRow, written, meant, legal_row, all_rows, all_legal_rows, list_rows}
 use Rattle.gates.proofs.Written.{written_meant, legal_meant}
 use Rattle.tableau.specs.Bytes.{tableau_bytes, column_at, decode_tableau}
 use Rattle.tableau.specs.Range.{tableau_range_of}
@@ -28,7 +28,7 @@ use Rattle.tableau.specs.Soundness.{soundness_of}
 use Rattle.synthesis.specs.Demand3.{Realisable, malformed_of, synthesis_refusal, handed, Synthesised}
 use Rattle.synthesis.proofs.Handed.{accepted_given, square_small}
 use Rattle.text.specs.Format.{digits, line, list_file, header, row_line, concatenated, Every, RowFits, print_file, print_refusal}
-use Rattle.text.specs.Inner.Prints.{columns_at, list_file_of}
+use Rattle.text.specs.Inner.Prints.{columns_at}
 use Rattle.text.specs.Convert.{full_columns, pauli_of, counts_of, columns_malformed, columns_refusal, PrintsList}
 use Rattle.text.specs.Inner.FromBytes.{TableauConverts, ColumnsConvert}
 use Rattle.text.proofs.Digits.{five_digits}
@@ -221,7 +221,7 @@ module _ (d n : ℕ) (tableau old new : List ℕ) (a : Answer) (s : Synthesised 
       omega (arith, (s.list z).short, square_small n g.width.n_high, g.width.n_high)
 
   -- the list
-  pub tableau_printed : {output : List ℕ} → 11008 ≤ length old → a.number ≡ 0 → output ≡ print_file (list_file_of d n (handed a.value new) a.value) → TableauConverts d n tableau output
+  pub tableau_printed : {output : List ℕ} → 11008 ≤ length old → a.number ≡ 0 → output ≡ print_file (list_file d n (list_rows (handed a.value new))) → TableauConverts d n tableau output
   tableau_printed {output} h z p = λ columns f m same. record {
     refused = λ r. absurd (r (sym (refusal_same d n tableau columns f m same (length old) h) ∙ sym s.number ∙ z));
     accepted = λ r. subst (λ (t : List Pauli). PrintsList d n t output) (decoded d n tableau columns f m same) list;
@@ -234,18 +234,14 @@ module _ (d n : ℕ) (tableau old new : List ℕ) (a : Answer) (s : Synthesised 
       count : length rows ≡ a.value
       count = sym (length-map (list_rows (handed a.value new)) meant) ∙ (s.list z).counted
 
-      same_rows : tab (row_at (handed a.value new)) a.value ≡ rows
-      same_rows = ap (tab (row_at (handed a.value new))) (sym count ∙ tab_length (row_at (handed a.value new)) (length (handed a.value new) / 8))
-
       list : PrintsList d n (decode_tableau n tableau) output
       list =
           let g = (accepted_given d n tableau (length old) (sym s.number ∙ z)).0 in
           let fits = rows_fit d n rows g.dimension.d_high g.width.n_high (s.list z).legal in
-          let print : output ≡ print_file (list_file d n rows) = p ∙ ap (λ (l : List WrittenRow). print_file (list_file d n l)) same_rows in
-          let short : length output ≤ 65536 = omega (arith, ap length print, list_length d n rows (omega (arith, g.dimension)) (omega (arith, g.width)) fits, count, list_few z) in
+          let short : length output ≤ 65536 = omega (arith, ap length p, list_length d n rows (omega (arith, g.dimension)) (omega (arith, g.width)) fits, count, list_few z) in
           record {
             rows = rows;
-            laid = (short, (((omega (arith, g.dimension), omega (arith, g.width)), fits), print));
+            laid = (short, (((omega (arith, g.dimension), omega (arith, g.width)), fits), p));
             legal = (s.list z).legal;
             short = omega (arith, count, (s.list z).short);
             realises = (s.list z).realises;

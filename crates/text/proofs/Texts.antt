@@ -17,13 +17,13 @@ use Rattle.text.specs.Format.{File, tableau_file, list_file, partner_file, conca
 use Rattle.text.specs.Inner.Reads.{Reads, ColumnsRead, RowsRead}
 use Rattle.text.specs.Convert.{PrintsFor, Converts, InputFits, ConvertsInput}
 use Rattle.text.specs.Inner.FromBytes.{RowsConvert, ColumnsConvert}
-use Rattle.text.proofs.Back.{rows_room, columns_room}
+use Rattle.text.proofs.Back.{rows_concatenated, rows_room, columns_room}
 use Rattle.gates.proofs.Written.{rows_bytes, list_encoded}
-use Rattle.text.proofs.Lists.{rows_concatenated}
 use Rattle.text.proofs.Unique.{one_file}
 use Rattle.text.specs.declared.reading.Columns.{Columns}
 use Rattle.text.specs.declared.reading.Contents.{Contents}
-use Rattle.text.specs.declared.reading.Contents.TheVariants.{Tableau, Rows, PartnerRows}
+use Rattle.text.specs.declared.reading.Contents.TheVariants as contents
+use Rattle.text.specs.declared.reading.Rows.{Rows}
 
 -- ---- 9
 pub converts_none : {text output : List ℕ} → ((f : File) → LaidOut text f → ⊥) → output ≡ print_refusal (refusal_number Text) → Converts text output
@@ -68,14 +68,14 @@ module _ (text before : List ℕ) (r : Option Contents) (buffer : List ℕ) (h :
   reads_none e = rw e at h
 
   -- an L file, and a G file
-  pub read_rows : {d n lines : ℕ} → r ≡ Some (Rows d n lines) → RowsRead list_file text before d n lines buffer
+  pub read_rows : {rows : Rows} → r ≡ Some (contents.Rows rows) → RowsRead list_file text before rows.d rows.n rows.lines buffer
   read_rows e = rw e at h
 
-  pub read_partner : {d n lines : ℕ} → r ≡ Some (PartnerRows d n lines) → RowsRead partner_file text before d n lines buffer
+  pub read_partner : {rows : Rows} → r ≡ Some (contents.PartnerRows rows) → RowsRead partner_file text before rows.d rows.n rows.lines buffer
   read_partner e = rw e at h
 
   -- a T file
-  module _ {c : Columns} (e : r ≡ Some (Tableau c)) where
+  module _ {c : Columns} (e : r ≡ Some (contents.Tableau c)) where
     pub read_columns : ColumnsRead text before c.d c.n c.lines c.full buffer
     read_columns = rw e at h
 

@@ -9,9 +9,10 @@ use lib.Dec.{ltb}
 use lib.ListN.{length, length-append}
 use borrow.Author.Tests.{ltb-true, ltb-false}
 use Rattle.gates.specs.Written.{WrittenRow}
+use Rattle.gates.proofs.Written.{row_path}
 use Rattle.text.specs.Format.{decimal, digits, line, letter_of, File, tableau_file, list_file, partner_file, row_line, column_line, concatenated, Every, ColumnFits, RowFits, FileFits, print_file, print_refusal, LaidOut}
 use Rattle.text.specs.Inner.Scan.{letter_field}
-use Rattle.text.specs.declared.reading.Field.TheVariants.{Whole}
+use Rattle.text.specs.declared.reading.Field.TheVariants as field
 use Rattle.text.proofs.Digits.{decimal_low, decimal_high, Letter, letter}
 use Rattle.text.proofs.Sound.{every_snoc}
 
@@ -125,7 +126,7 @@ columns_unique ((x ∷ xs) ∷ cs) ((y ∷ ys) ∷ es) f g e =
 
 letter_unique : (k j : ℕ) → Letter k → Letter j → letter_of k ≡ letter_of j → k ≡ j
 letter_unique k j l m e =
-    let h : Some (Whole k) ≡ Some (Whole j) = sym l.back ∙ ap letter_field e ∙ m.back in
+    let h : Some (field.Letter l.kind) ≡ Some (field.Letter m.kind) = sym l.back ∙ ap letter_field e ∙ m.back in
     cc
 
 -- a row's line is its letter, a comma, and a line of three numbers
@@ -143,7 +144,7 @@ row_unique r s u z f g e =
         let h1 : r.first ≡ s.first = cc in
         let h2 : r.second ≡ s.second = cc in
         let h3 : r.power ≡ s.power = cc in
-        λ i. record { kind = k i; first = h1 i; second = h2 i; power = h3 i }
+        row_path k h1 h2 h3
 
 rows_unique : (rs ss : List WrittenRow) → Every RowFits rs → Every RowFits ss → concatenated row_line rs ≡ concatenated row_line ss → rs ≡ ss
 unfolding concatenated Every line

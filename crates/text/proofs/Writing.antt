@@ -1,19 +1,20 @@
 -- Laws of what is written after what. Assumes nothing.
 use mathlib.Core.Path.{◌≡◌, refl, sym, ap, ap₂, ◌∙◌}
-use mathlib.Core.List.{List, [], ◌∷◌, ◌++◌, append_assoc}
+use mathlib.Core.List.{List, [], ◌∷◌, ◌++◌, append-nil, append_assoc}
 use Prim.Native.Nat.{ℕ, ◌+◌, ◌*◌, ◌/◌, ◌%◌, ◌≤◌, ◌<◌}
 use native.Mathlib.Nat.{zero-add, add-zero}
 use native.Mathlib.Numerals.{add-one}
 use native.Mathlib.Omega.{arith}
 use lib.ListN.{length, set, take, drop, length-append}
 use lib.Seq.{sets, sets-eq, drop-drop}
-use Rattle.arith.proofs.Bytes.{tab_more, sets_append}
+use Rattle.arith.proofs.Bytes.{tab_more, tab_length, sets_append, write_front}
 use Rattle.arith.specs.Bytes.{tab, number_at, numbers_at}
-use Rattle.gates.specs.Written.{row_at}
+use Rattle.gates.specs.Written.{WrittenRow, row_at, list_rows}
+use Rattle.gates.proofs.Written.{rows_front, rows_none}
 use Rattle.text.specs.Format.{digits, line, letter_of, header, column_line, row_line, concatenated, print_refusal}
 use Rattle.text.specs.Inner.Prints.{PutsText, Prints}
 use Rattle.text.proofs.Digits.{digits_low, digits_last}
-use Rattle.text.proofs.Sound.{header_text, commas, commas_snoc, line_snoc, concatenated_snoc}
+use Rattle.text.proofs.Sound.{header_text, row_text, commas, commas_snoc, line_snoc, concatenated_snoc}
 
 pub puts_none : (out : List ℕ) (at : ℕ) → PutsText out at [] at out
 puts_none out at = record { ends = sym (add-zero at); holds = refl }
@@ -55,7 +56,7 @@ puts_digits out at x next l h p =
 pub puts_front : (out text : List ℕ) (next : ℕ) (l : List ℕ) → next ≤ length out → PutsText out 0 text next l → Prints text out next l
 puts_front out text next l h p =
     let e : next ≡ length text = p.ends ∙ zero-add (length text) in
-    record { counts = e; fronts = p.holds ∙ sets-eq text out 0 (omega arith) ∙ ap (λ (k : ℕ). text ++ drop k out) (zero-add (length text)) }
+    record { counts = e; fronts = p.holds ∙ write_front out text (omega arith) }
 
 -- ---- lines
 pub puts_two : (out : List ℕ) (at a b : ℕ) → PutsText out at (a ∷ b ∷ []) (at + 2) (set (set out at a) (at + 1) b)
@@ -98,14 +99,35 @@ pub lines_none : {A : Type 0} (line : A → List ℕ) (f : ℕ → A) (out : Lis
 unfolding tab concatenated
 lines_none line f out at = puts_none out at
 
-pub lines_put : {A : Type 0} (line : A → List ℕ) (f : ℕ → A) (out : List ℕ) (at i next : ℕ) (l : List ℕ) (n2 : ℕ) (l2 : List ℕ)
-    → PutsText out at (concatenated line (tab f i)) next l → PutsText l next (line (f i)) n2 l2 → PutsText out at (concatenated line (tab f (i + 1))) n2 l2
-lines_put line f out at i next l n2 l2 p q =
-    puts_as out at (concatenated line (tab f i) ++ line (f i)) (concatenated line (tab f (i + 1))) n2 l2 (sym (ap (concatenated line) (tab_more f i) ∙ concatenated_snoc line (tab f i) (f i)))
-    (puts_more out at (concatenated line (tab f i)) (line (f i)) next l n2 l2 p q)
+pub lines_snoc : {A : Type 0} (line : A → List ℕ) (xs : List A) (out : List ℕ) (at next : ℕ) (l : List ℕ) (n2 : ℕ) (l2 : List ℕ) {x y : A} → x ≡ y
+    → PutsText out at (concatenated line xs) next l → PutsText l next (line x) n2 l2 → PutsText out at (concatenated line (xs ++ (y ∷ []))) n2 l2
+lines_snoc {A} line xs out at next l n2 l2 {x} {y} e p q =
+    puts_as out at (concatenated line xs ++ line x) (concatenated line (xs ++ (y ∷ []))) n2 l2 (ap (λ (z : A). concatenated line xs ++ line z) e ∙ sym (concatenated_snoc line xs y))
+    (puts_more out at (concatenated line xs) (line x) next l n2 l2 p q)
 
--- a row is its letter, a comma, and a line of three numbers
-row_numbers_lem : (b : List ℕ) (k : ℕ) → numbers_at b (4 * k + 1) 3 ≡ number_at b (4 * k + 1) ∷ number_at b (4 * k + 2) ∷ number_at b (4 * k + 3) ∷ []
+pub lines_put : {A : Type 0} (line : A → List ℕ) (f : ℕ → A) (out : List ℕ) (at i next : ℕ) (l : List ℕ) (n2 : ℕ) (l2 : List ℕ) {x : A} → x ≡ f i
+    → PutsText out at (concatenated line (tab f i)) next l → PutsText l next (line x) n2 l2 → PutsText out at (concatenated line (tab f (i + 1))) n2 l2
+lines_put line f out at i next l n2 l2 e p q =
+    puts_as out at (concatenated line (tab f i ++ (f i ∷ []))) (concatenated line (tab f (i + 1))) n2 l2 (sym (ap (concatenated line) (tab_more f i)))
+    (lines_snoc line (tab f i) out at next l n2 l2 e p q)
+
+-- ---- a loop over a list's bytes, row by row: the rows passed, then those of the bytes left
+module _ (list rest : List ℕ) (passed : List WrittenRow) (left : list_rows list ≡ passed ++ list_rows rest) where
+  rows_count : length list / 8 ≡ length passed + length rest / 8
+  rows_count = sym (tab_length (row_at list) (length list / 8)) ∙ ap length left ∙ length-append passed (list_rows rest) ∙ ap (λ (k : ℕ). length passed + k) (tab_length (row_at rest) (length rest / 8))
+
+  pub rows_fit : (x after : List ℕ) → rest ≡ x ++ after → length x ≡ 8 → length passed + 1 ≤ length list / 8
+  rows_fit x after cut whole = omega (arith, rows_count, ap length cut, length-append x after, whole)
+
+  pub rows_next : (x after : List ℕ) → rest ≡ x ++ after → length x ≡ 8 → list_rows list ≡ (passed ++ (row_at x 0 ∷ [])) ++ list_rows after
+  rows_next x after cut whole = left ∙ ap (λ (ws : List WrittenRow). passed ++ ws) (ap list_rows cut ∙ rows_front x after whole) ∙ sym (append_assoc passed (row_at x 0 ∷ []) (list_rows after))
+
+  -- where fewer bytes are left than a row has, all are passed
+  pub rows_end : length rest < 8 → passed ≡ list_rows list
+  rows_end h = sym (left ∙ ap (λ (ws : List WrittenRow). passed ++ ws) (rows_none rest h) ∙ append-nil passed)
+
+-- the three numbers of row k of a list in bytes
+pub row_numbers_lem : (b : List ℕ) (k : ℕ) → numbers_at b (4 * k + 1) 3 ≡ number_at b (4 * k + 1) ∷ number_at b (4 * k + 2) ∷ number_at b (4 * k + 3) ∷ []
 unfolding tab
 row_numbers_lem b k =
     let e0 : 4 * k + 1 + 0 ≡ 4 * k + 1 = omega arith in
@@ -113,9 +135,14 @@ row_numbers_lem b k =
     let e2 : 4 * k + 1 + 2 ≡ 4 * k + 3 = omega arith in
     rw (e0, e1, e2)
 
-pub puts_row : (out : List ℕ) (at : ℕ) (b : List ℕ) (k x n1 : ℕ) (l1 : List ℕ) → x ≡ letter_of (number_at b (4 * k))
-    → PutsText (set (set out at x) (at + 1) 44) (at + 2) (column_line (numbers_at b (4 * k + 1) 3)) n1 l1 → PutsText out at (row_line (row_at b k)) n1 l1
-unfolding line
-puts_row out at b k x n1 l1 e p =
-    puts_as out at ((x ∷ 44 ∷ []) ++ column_line (numbers_at b (4 * k + 1) 3)) (row_line (row_at b k)) n1 l1 (rw (row_numbers_lem b k, e))
-    (puts_more out at (x ∷ 44 ∷ []) (column_line (numbers_at b (4 * k + 1) 3)) (at + 2) (set (set out at x) (at + 1) 44) n1 l1 (puts_two out at x 44) p)
+-- a row is its letter, a comma, and three fields
+pub puts_row : (out : List ℕ) (at : ℕ) (w : WrittenRow) (x n1 : ℕ) (l1 : List ℕ) (n2 : ℕ) (l2 : List ℕ) (n3 : ℕ) (l3 : List ℕ) → x ≡ letter_of w.kind
+    → PutsText (set (set out at x) (at + 1) 44) (at + 2) (digits w.first ++ (44 ∷ [])) n1 l1 → PutsText l1 n1 (digits w.second ++ (44 ∷ [])) n2 l2 → PutsText l2 n2 (digits w.power ++ (10 ∷ [])) n3 l3
+    → PutsText out at (row_line w) n3 l3
+puts_row out at w x n1 l1 n2 l2 n3 l3 e p q r =
+    let a : List ℕ = x ∷ 44 ∷ [] in
+    let b : List ℕ = digits w.first ++ (44 ∷ []) in
+    let c : List ℕ = digits w.second ++ (44 ∷ []) in
+    puts_as out at (((a ++ b) ++ c) ++ (digits w.power ++ (10 ∷ []))) (row_line w) n3 l3 (ap (λ (y : ℕ). (y ∷ 44 ∷ (b ++ c)) ++ (digits w.power ++ (10 ∷ []))) e ∙ ap (λ (l : List ℕ). (letter_of w.kind ∷ 44 ∷ l) ++ (digits w.power ++ (10 ∷ []))) (append_assoc (digits w.first) (44 ∷ []) c) ∙ row_text w)
+    (puts_more out at ((a ++ b) ++ c) (digits w.power ++ (10 ∷ [])) n2 l2 n3 l3
+    (puts_more out at (a ++ b) c n1 l1 n2 l2 (puts_more out at a b (at + 2) (set (set out at x) (at + 1) 44) n1 l1 (puts_two out at x 44) p) q) r)

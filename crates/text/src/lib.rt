@@ -10,7 +10,7 @@ ghost use Rattle.text.specs.Inner.FromBytes.{Outputs, printed_of, RowsConvert, T
 
 use crate::partner::{partner_check, translate};
 use crate::printing::{print_list, print_refusal, print_tableau};
-use crate::reading::{Columns, Contents, read};
+use crate::reading::{Columns, Contents, Rows, read};
 use arith::checks::Refusal;
 use arith::modulus::{Width, given};
 
@@ -18,36 +18,13 @@ pub mod partner;
 pub mod printing;
 pub mod reading;
 
-// Prints the tableau of a list and returns the length of what is printed. A refusal is not printed here, nor in the functions below that answer a Result: `print_answer`
-// prints it for all of them.
-fn convert_list(
-    d: u16,
-    n: u16,
-    list: &[u8],
-    answer: &mut [u8],
-    out: &mut [u8],
-) -> Result<usize, Refusal>
-    requires { (2112 ≤ length answer.old) × (6350 ≤ length out.old) }
-    ensures { Outputs (RowsConvert list_file d n list.now) result out.new }
-{
-    tableau::calls::tableau_of(d, n, list, answer)?;
-    Ok(print_tableau(d, n, answer, out))
-}
-
-// Prints the tableau of a partner's list, whose rows are translated in place.
-fn convert_partner(
-    d: u16,
-    n: u16,
-    list: &mut [u8],
-    answer: &mut [u8],
-    out: &mut [u8],
-) -> Result<usize, Refusal>
-    requires { (2112 ≤ length answer.old) × (6350 ≤ length out.old) }
-    ensures { Outputs (RowsConvert partner_file d n list.old) result out.new }
-{
-    let modulus = partner_check(d, n, list)?;
-    translate(list, modulus);
-    convert_list(d, n, list, answer, out)
+// What a text is converted in: room for the numbers that are read, for a call's answer, and for what is printed.
+#[derive(Drop)]
+struct Buffers<'a> {
+    numbers: &'a mut [u8],
+    answer: &'a mut [u8],
+    out: &'a mut [u8],
+    ghost sizes: { (65536 ≤ length numbers.now) × ((11008 ≤ length answer.now) × (27534 ≤ length out.now)) },
 }
 
 impl Columns {
@@ -73,58 +50,60 @@ impl Columns {
     }
 }
 
-// Prints a list that does the tableau.
-fn convert_tableau(
-    d: u16,
-    n: u16,
-    tableau: &[u8],
-    answer: &mut [u8],
-    out: &mut [u8],
-) -> Result<usize, Refusal>
-    requires { (11008 ≤ length answer.old) × (27534 ≤ length out.old) }
-    ensures { Outputs (TableauConverts d n tableau.now) result out.new }
-{
-    let count = synthesis::calls::synthesis(d, n, tableau, answer)? as usize;
-    Ok(print_list(d, n, &answer[..8 * count], count, out))
-}
+// Each method prints from the front of `out` on, and returns the length of what is printed. A refusal isn't printed here: `print_answer` prints it for all of them.
+impl Buffers<'_> {
+    // Prints the tableau of the list at the front of the numbers.
+    fn convert_list(&mut self, rows: Rows) -> Result<usize, Refusal>
+        requires { 8 * rows.lines ≤ length self.old.numbers.now }
+        ensures { Outputs (RowsConvert list_file rows.d rows.n (take (8 * rows.lines) self.old.numbers.now)) result self.old.out self.new.out }
+    {
+        let list = &self.numbers[..8 * rows.lines];
+        tableau::calls::tableau_of(rows.d, rows.n, list, self.answer)?;
+        Ok(print_tableau(rows.d, rows.n, self.answer, self.out))
+    }
 
-// Prints a list that does the tableau whose columns are the file's lines.
-fn convert_columns(
-    columns: Columns,
-    numbers: &[u8],
-    answer: &mut [u8],
-    out: &mut [u8],
-) -> Result<usize, Refusal>
-    requires room { (11008 ≤ length answer.old) × (27534 ≤ length out.old) }
-    requires inside { columns.full ≡ true → 2 * (columns.lines * (1 + 2 * columns.n)) ≤ length numbers.now }
-    ensures { Outputs (ColumnsConvert columns.d columns.n columns.lines columns.full numbers.now) result out.new }
-{
-    let width = columns.check()?;
-    let size = tableau::calls::tableau_bytes(width);
-    convert_tableau(columns.d, columns.n, &numbers[..size], answer, out)
-}
+    // Prints the tableau of the partner's list there, whose rows are translated in place.
+    fn convert_partner(&mut self, rows: Rows) -> Result<usize, Refusal>
+        requires { 8 * rows.lines ≤ length self.old.numbers.now }
+        ensures { Outputs (RowsConvert partner_file rows.d rows.n (take (8 * rows.lines) self.old.numbers.now)) result self.old.out self.new.out }
+    {
+        let list = &mut self.numbers[..8 * rows.lines];
+        let modulus = partner_check(rows.d, rows.n, list)?;
+        translate(list, modulus);
+        self.convert_list(rows)
+    }
 
-// Prints what the text program prints for a text.
-fn convert_text(
-    text: &[u8],
-    numbers: &mut [u8],
-    answer: &mut [u8],
-    out: &mut [u8],
-) -> Result<usize, Refusal>
-    requires { (65536 ≤ length numbers.old) × ((11008 ≤ length answer.old) × (27534 ≤ length out.old)) }
-    ensures { Outputs (Converts text.now) result out.new }
-{
-    let contents = read(text, numbers).ok_or(Refusal::Text)?;
-    match contents {
-        Contents::Tableau(columns) => convert_columns(columns, numbers, answer, out),
-        Contents::Rows { d, n, lines } => convert_list(d, n, &numbers[..8 * lines], answer, out),
-        Contents::PartnerRows { d, n, lines } => convert_partner(
-            d,
-            n,
-            &mut numbers[..8 * lines],
-            answer,
-            out,
-        ),
+    // Prints a list that does the tableau of so many bytes there.
+    fn convert_tableau(&mut self, d: u16, n: u16, size: usize) -> Result<usize, Refusal>
+        requires { size ≤ length self.old.numbers.now }
+        ensures { Outputs (TableauConverts d n (take size self.old.numbers.now)) result self.old.out self.new.out }
+    {
+        let tableau = &self.numbers[..size];
+        let count = synthesis::calls::synthesis(d, n, tableau, self.answer)? as usize;
+        let list = &self.answer[..8 * count];
+        Ok(print_list(d, n, list, self.out))
+    }
+
+    // Prints a list that does the tableau whose columns are the file's lines.
+    fn convert_columns(&mut self, columns: Columns) -> Result<usize, Refusal>
+        requires { columns.full ≡ true → 2 * (columns.lines * (1 + 2 * columns.n)) ≤ length self.old.numbers.now }
+        ensures { Outputs (ColumnsConvert columns.d columns.n columns.lines columns.full self.old.numbers.now) result self.old.out self.new.out }
+    {
+        let width = columns.check()?;
+        let size = tableau::calls::tableau_bytes(width);
+        self.convert_tableau(columns.d, columns.n, size)
+    }
+
+    // Prints what the text program prints for a text.
+    fn convert_text(&mut self, text: &[u8]) -> Result<usize, Refusal>
+        ensures { Outputs (Converts text.now) result self.old.out self.new.out }
+    {
+        let contents = read(text, self.numbers).ok_or(Refusal::Text)?;
+        match contents {
+            Contents::Tableau(columns) => self.convert_columns(columns),
+            Contents::Rows(rows) => self.convert_list(rows),
+            Contents::PartnerRows(rows) => self.convert_partner(rows),
+        }
     }
 }
 
@@ -145,7 +124,13 @@ pub fn convert(text: &[u8], numbers: &mut [u8], answer: &mut [u8], out: &mut [u8
     requires { (65536 ≤ length numbers.old) × ((11008 ≤ length answer.old) × (27534 ≤ length out.old)) }
     ensures { (result ≤ length out.new) × Converts text.now (take result out.new) }
 {
-    let found = convert_text(text, numbers, answer, out);
+    let mut buffers = Buffers {
+        numbers,
+        answer,
+        out,
+    };
+    let found = buffers.convert_text(text);
+    let Buffers { out, .. } = buffers;
     print_answer(found, out)
 }
 

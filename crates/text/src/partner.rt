@@ -49,16 +49,14 @@ fn our_row(row: Row, d: Modulus) -> Row
     requires { (n : ℕ) × (legal_row d n (view_row row) ≡ true) }
     ensures { view_row result ≡ translated d (view_row row) }
 {
-    let Ok(kind) = Kind::try_from(row.kind) else {
-        return row;
-    };
-    if is_undone(kind) {
+    if Kind::try_from(row.kind).is_ok_and(is_undone) {
         return row.undo(d);
     }
     row
 }
 
-// Translates the rows of the list in place. Only powers change.
+// Translates the rows of the list in place. Only powers change. It goes by the rows' numbers: of a slice that is written by its chunks (`chunks_exact_mut`) the
+// library says the length alone.
 pub fn translate(list: &mut [u8], d: Modulus)
     requires { (n : ℕ) × (all_legal_rows d n (list_rows list.old) ≡ true) }
     ensures { list_rows list.new ≡ map (translated d) (list_rows list.old) }

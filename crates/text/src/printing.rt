@@ -1,11 +1,12 @@
 // Printing: a tableau, a list or a refusal as text.
-ghost use Rattle.std.specs.Prelude.{◌≡◌, [], ◌∷◌, ◌++◌, ◌+◌, ◌*◌, ◌≤◌, ◌<◌, length};
-ghost use Rattle.arith.specs.Bytes.{tab, numbers_at};
-ghost use Rattle.gates.specs.Written.{row_at};
-ghost use Rattle.text.specs.Format.{digits, letter_of, header, column_line, row_line, concatenated, print_file, print_refusal};
-ghost use Rattle.text.specs.Inner.Prints.{PutsText, Prints, columns_at, tableau_file_of, list_file_of};
+ghost use Rattle.std.specs.Prelude.{◌≡◌, [], ◌∷◌, ◌++◌, ◌+◌, ◌*◌, ◌/◌, ◌≤◌, length};
+ghost use Rattle.gates.specs.Inner.View.{view_row};
+ghost use Rattle.text.specs.Format.{digits, header, column_line, row_line, print_file, print_refusal};
+ghost use Rattle.text.specs.Inner.Prints.{PutsText, Prints, all_numbers, tableau_file_of, list_file_of};
 
+use gates::Row;
 use gates::kind::Kind;
+use gates::lists::read_row;
 use itoa::Buffer;
 
 // Writes the digits of x. Each function here writes from position `at` on and returns the position after what it wrote.
@@ -42,63 +43,29 @@ fn print_header(out: &mut [u8], letter: u8, d: u16, n: u16) -> usize
     print_field(out, next, n, b'\n')
 }
 
-// Writes the m numbers of b from number k on as a line.
-fn print_column(out: &mut [u8], at: usize, b: &[u8], k: usize, m: usize) -> usize
-    requires { (0 < m) × ((2 * (k + m) ≤ length b.now) × (at + 6 * m ≤ length out.old)) }
-    ensures { (PutsText out.old at (column_line (numbers_at b.now k m)) result out.new) × (result ≤ at + 6 * m) }
+// Writes numbers as a line. By their places, since the last one ends the line.
+fn print_column(out: &mut [u8], at: usize, numbers: &[u8]) -> usize
+    requires { (2 ≤ length numbers.now) × (at + 6 * (length numbers.now / 2) ≤ length out.old) }
+    ensures { (PutsText out.old at (column_line (all_numbers numbers.now)) result out.new) × (result ≤ at + 6 * (length numbers.now / 2)) }
 {
     let mut next = at;
-    let last = m - 1;
+    let last = numbers.len() / 2 - 1;
     for i in 0..last {
-        next = print_field(out, next, arith::numbers::get(b, k + i), b',');
+        next = print_field(out, next, arith::numbers::get(numbers, i), b',');
     }
-    print_field(out, next, arith::numbers::get(b, k + last), b'\n')
+    print_field(out, next, arith::numbers::get(numbers, last), b'\n')
 }
 
-// Writes `count` columns of m numbers each.
-fn print_columns(out: &mut [u8], at: usize, b: &[u8], m: usize, count: usize) -> usize
-    requires { (0 < m) × ((2 * (count * m) ≤ length b.now) × (at + 6 * (count * m) ≤ length out.old)) }
-    ensures { (PutsText out.old at (concatenated column_line (columns_at b.now m count)) result out.new) × (result ≤ at + 6 * (count * m)) }
+// Writes a row: the letter of its kind, 0 for no kind, and three numbers.
+fn print_row(out: &mut [u8], at: usize, row: Row) -> usize
+    requires { at + 20 ≤ length out.old }
+    ensures { (PutsText out.old at (row_line (view_row row)) result out.new) × (result ≤ at + 20) }
 {
-    let mut next = at;
-    for i in 0..count {
-        next = print_column(out, next, b, i * m, m);
-    }
-    next
-}
-
-// The letter of a kind, by its number; 0 for no kind.
-#[tactic(auto, using(crate::proofs::Letters::letter_number, crate::proofs::Letters::no_letter))]
-fn letter(kind: u16) -> u8
-    ensures { result ≡ letter_of kind }
-{
-    match Kind::try_from(kind) {
-        Ok(kind) => kind.letter(),
-        Err(_) => 0,
-    }
-}
-
-// Writes row k of b: a letter, and then a line of three numbers.
-fn print_row(out: &mut [u8], at: usize, b: &[u8], k: usize) -> usize
-    requires { (8 * k + 8 ≤ length b.now) × (at + 20 ≤ length out.old) }
-    ensures { (PutsText out.old at (row_line (row_at b.now k)) result out.new) × (result ≤ at + 20) }
-{
-    out[at] = letter(arith::numbers::get(b, 4 * k));
+    out[at] = Kind::try_from(row.kind).map_or(0, Kind::letter);
     out[at + 1] = b',';
-    print_column(out, at + 2, b, 4 * k + 1, 3)
-}
-
-// Writes the first `count` rows of b. It is the loop of `print_columns`: a function of both would take the line as a closure, and would have to say what each call of
-// that reads and writes, which is more than is said here twice.
-fn print_rows(out: &mut [u8], at: usize, b: &[u8], count: usize) -> usize
-    requires { (8 * count ≤ length b.now) × (at + 20 * count ≤ length out.old) }
-    ensures { (PutsText out.old at (concatenated row_line (tab (row_at b.now) count)) result out.new) × (result ≤ at + 20 * count) }
-{
-    let mut next = at;
-    for i in 0..count {
-        next = print_row(out, next, b, i);
-    }
-    next
+    let next = print_field(out, at + 2, row.first, b',');
+    let next = print_field(out, next, row.second, b',');
+    print_field(out, next, row.power, b'\n')
 }
 
 // Prints a T file from a tableau's bytes and returns its length.
@@ -106,21 +73,27 @@ pub fn print_tableau(d: u16, n: u16, b: &[u8], out: &mut [u8]) -> usize
     requires { (2 * (2 * n * (1 + 2 * n)) ≤ length b.now) × (14 + 6 * (2 * n * (1 + 2 * n)) ≤ length out.old) }
     ensures { Prints (print_file (tableau_file_of d n b.now)) out.old result out.new }
 {
-    let at = print_header(out, b'T', d, n);
     let count = 2 * (n as usize);
-    print_columns(out, at, b, 1 + count, count)
+    let mut next = print_header(out, b'T', d, n);
+    for column in b[..2 * (count * (1 + count))].chunks_exact(2 * (1 + count)) {
+        next = print_column(out, next, column);
+    }
+    next
 }
 
-// Prints an L file from the first `count` rows of a list's bytes and returns its length.
-pub fn print_list(d: u16, n: u16, b: &[u8], count: usize, out: &mut [u8]) -> usize
-    requires { (8 * count ≤ length b.now) × (14 + 20 * count ≤ length out.old) }
-    ensures { Prints (print_file (list_file_of d n b.now count)) out.old result out.new }
+// Prints an L file from a list's bytes and returns its length.
+pub fn print_list(d: u16, n: u16, list: &[u8], out: &mut [u8]) -> usize
+    requires { 14 + 20 * (length list.now / 8) ≤ length out.old }
+    ensures { Prints (print_file (list_file_of d n list.now (length list.now / 8))) out.old result out.new }
 {
-    let at = print_header(out, b'L', d, n);
-    print_rows(out, at, b, count)
+    let mut next = print_header(out, b'L', d, n);
+    for row in list.chunks_exact(8) {
+        next = print_row(out, next, read_row(row, 0));
+    }
+    next
 }
 
-// Prints a refusal and returns its length.
+// Prints a refusal, by its number, and returns its length. It takes any number: a `Refusal` would ask more of callers.
 pub fn print_refusal(number: u16, out: &mut [u8]) -> usize
     requires { 8 ≤ length out.old }
     ensures { Prints (print_refusal number) out.old result out.new }

@@ -23,11 +23,14 @@ pub enum Field {
     Empty,
     // A number that more digits may follow.
     Number(u16),
-    // A letter, by its kind, or the number 0: the field is whole.
-    Whole(u16),
+    // The number 0, which none may follow.
+    Zero,
+    // A letter, by its kind.
+    Letter(Kind),
 }
 
 // Where the reading stands. Its numbers are its own fields, and no `Columns`: each byte changes one or two of them, by an update of one struct.
+// None of them says whether another one holds: lines are counted whether or not they are full, so the two are no Option.
 #[derive(Clone, Copy)]
 pub struct State {
     pub form: Form,
@@ -50,27 +53,35 @@ pub struct Columns {
     pub d: u16,
     pub n: u16,
     pub lines: usize,
-    // Each has 1 + 2n numbers.
+    // Each has 1 + 2n numbers. `lines` is their count either way, so the two are no Option.
     pub full: bool,
+}
+
+// The rows of an L or G file, as they are counted.
+#[derive(Clone, Copy)]
+pub struct Rows {
+    pub d: u16,
+    pub n: u16,
+    pub lines: usize,
 }
 
 // What a text holds.
 #[derive(Clone, Copy)]
 pub enum Contents {
     Tableau(Columns),
-    Rows { d: u16, n: u16, lines: usize },
+    Rows(Rows),
     // The rows of a G file.
-    PartnerRows { d: u16, n: u16, lines: usize },
+    PartnerRows(Rows),
 }
 
 impl Field {
     // A field that the byte b begins, where a letter is due.
-    #[tactic(auto, using(crate::proofs::Letters::letter_kind, crate::proofs::Letters::letter_none))]
+    #[tactic(auto, using(crate::proofs::Letters::letter_none))]
     fn letter(b: u8) -> Option<Field>
         ensures { result ≡ letter_field b }
     {
         let kind = Kind::from_letter(b)?;
-        Some(Field::Whole(kind.into()))
+        Some(Field::Letter(kind))
     }
 
     // A field that the byte b begins, where a number is due. std's `parse` takes leading zeros and a sign, which the format does not.
@@ -79,7 +90,7 @@ impl Field {
         ensures { result ≡ first_digit b }
     {
         match b {
-            b'0' => Some(Field::Whole(0)),
+            b'0' => Some(Field::Zero),
             b'1'..=b'9' => Some(Field::Number((b - b'0') as u16)),
             _ => None,
         }
@@ -90,7 +101,7 @@ impl Field {
     fn next_digit(v: u16, b: u8) -> Option<Field>
         ensures { result ≡ next_digit v b }
     {
-        if b < b'0' || b'9' < b {
+        if !b.is_ascii_digit() {
             return None;
         }
         let x = v.checked_mul(10)?.checked_add((b - b'0') as u16)?;
@@ -105,7 +116,7 @@ impl Field {
             Field::Empty if due => Field::letter(b),
             Field::Empty => Field::first_digit(b),
             Field::Number(v) => Field::next_digit(v, b),
-            Field::Whole(_) => None,
+            Field::Zero | Field::Letter(_) => None,
         }
     }
 
@@ -115,7 +126,9 @@ impl Field {
     {
         match self {
             Field::Empty => None,
-            Field::Number(x) | Field::Whole(x) => Some(x),
+            Field::Number(x) => Some(x),
+            Field::Zero => Some(0),
+            Field::Letter(kind) => Some(kind.into()),
         }
     }
 }
@@ -276,11 +289,11 @@ impl State {
                 lines: self.lines,
                 full: self.full,
             })),
-            (Form::GateRow, 0, Field::Empty) => Some(Contents::Rows {
+            (Form::GateRow, 0, Field::Empty) => Some(Contents::Rows(Rows {
                 d: self.d,
                 n: self.n,
                 lines: self.lines,
-            }),
+            })),
             _ => None,
         }
     }
@@ -293,11 +306,7 @@ impl Contents {
         ensures { result ≡ named_of first self }
     {
         match self {
-            Contents::Rows { d, n, lines } if first == b'G' => Contents::PartnerRows {
-                d,
-                n,
-                lines,
-            },
+            Contents::Rows(rows) if first == b'G' => Contents::PartnerRows(rows),
             _ => self,
         }
     }

@@ -3,7 +3,10 @@ use Rattle.std.proofs.Common.{◌≡◌, ℕ, ◌+◌, ◌≤◌, List, ◌++◌
 use Rattle.std.proofs.lemmas.List.{take-append-le, length-take-le}
 use Rattle.std.proofs.Math.Seq.{take-append-add}
 use Rattle.std.proofs.KnownBytes.{Consumes-trans}
-use Rattle.std.specs.Io.KnownBytes.{Consumes}
+use Rattle.std.specs.Prelude.{Result, Ok, Err, Some}
+use Rattle.std.specs.Result.{result_ok}
+use Rattle.std.specs.Io.{ReadsAtMost}
+use Rattle.std.specs.Io.KnownBytes.{Consumes, ReadConsumes}
 use borrow.Rule.Slice.PartMut.{put_mid, post_of}
 use Rattle.convert.proofs.read_input.Goals as goal
 
@@ -14,10 +17,19 @@ take_more a k m xs ys l h =
     ∙ take-append-add (take a xs) (ys ++ post_of a k xs) m
     ∙ ap (λ (zs : List ℕ). take a xs ++ zs) (take-append-le m ys (post_of a k xs) h)
 
+-- what `ok` makes Some was Ok
+was_ok : {E : Type 0} (r : Result ℕ E) (n : ℕ) → result_ok r ≡ Some n → r ≡ Ok n
+was_ok (Ok m) n e = cc
+was_ok (Err z) n e = cc
+
 pub loop-done-preserved : goal.loop-done-preserved
-loop-done-preserved g c = record {
-  within = omega (arith, c.in-Ok.ensures.bound.0);
-  read = subst (Consumes (g.R.Read.remaining c.args.reader.now) (g.R.Read.remaining c.read.new.self))
-      (sym (take_more c.loop-done.done _ c.in-Ok.more c.loop-done.buffer c.read.new.buf c.loop-done.invariant.within c.in-Ok.ensures.bound.0))
-      (Consumes-trans _ _ _ _ _ c.loop-done.invariant.read c.in-Ok.ensures.bytes.0);
-}
+loop-done-preserved g c =
+    let e = was_ok c.read.result c.in_ok-more.more (sym c.ok.ensures.value ∙ c.in_ok-more.was) in
+    let bound = subst (λ r. ReadsAtMost r c.read.new.buf) e c.read.ensures.bound in
+    let bytes = subst (λ r. ReadConsumes (g.R.Read.remaining c.loop-done.reader) (g.R.Read.remaining c.read.new.self) r c.read.new.buf) e c.read.ensures.bytes in
+    record {
+      within = omega (arith, bound.0);
+      read = subst (Consumes (g.R.Read.remaining c.args.reader.now) (g.R.Read.remaining c.read.new.self))
+          (sym (take_more c.loop-done.done _ c.in_ok-more.more c.loop-done.buffer c.read.new.buf c.loop-done.invariant.within bound.0))
+          (Consumes-trans _ _ _ _ _ c.loop-done.invariant.read bytes.0);
+    }

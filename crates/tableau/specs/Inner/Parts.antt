@@ -1,5 +1,5 @@
 -- The refusals of a call in two parts: what the lengths decide, 1 to 4, and what the numbers decide, 5, 7 and 8.
-use Rattle.std.specs.Prelude.{List, ℕ, take}
+use Rattle.std.specs.Prelude.{List, ℕ, ◌/◌, length, take}
 use Rattle.arith.specs.Bytes.{tab}
 use Rattle.arith.specs.Refusals.{or_else, given_of, size_of, whole_of, room_of}
 use Rattle.pauli.specs.Pauli.{Pauli}
@@ -43,3 +43,7 @@ images_tests d n t ps = or_else (tableau_range_of d t) (or_else (tableau_range_o
 -- the first m Paulis that the bytes hold, one after the other
 abbrev pub paulis_at : ℕ → List ℕ → ℕ → List Pauli
 paulis_at n b m = tab (λ j. column_at n j b) m
+
+-- all that the bytes of a batch hold
+abbrev pub decode_batch : ℕ → List ℕ → List Pauli
+decode_batch n b = paulis_at n b (length b / pauli_bytes n)

@@ -1,6 +1,7 @@
 -- What the functions that convert answer, and what is printed for the bytes of rows, of a tableau's 2n columns of 1 + 2n numbers, and of the columns of any T file at a
 -- buffer's front.
 use Rattle.std.specs.Prelude.{◌≡◌, Bool, true, false, Result, Ok, Err, List, ◌++◌, ℕ, ◌*◌, ◌≤◌, length, take, IfOk}
+use Rattle.std.specs.Borrow.{MutBor}
 use Rattle.arith.specs.declared.checks.Refusal.{Refusal}
 use Rattle.arith.specs.Refusals.{refusal_number, or_else, given_of, list_size_of, row_of}
 use Rattle.arith.specs.Bytes.{bytes_of}
@@ -17,10 +18,11 @@ abbrev pub printed_of : Result ℕ Refusal → List ℕ → List ℕ
 printed_of (Ok count) out = take count out
 printed_of (Err k) out = print_refusal (refusal_number k)
 
--- P holds of it
-pub record Outputs (P : List ℕ → Type 0) (r : Result ℕ Refusal) (out : List ℕ) : Type 0 where
-  pub inside : IfOk r (λ count. count ≤ length out)
-  pub holds : P (printed_of r out)
+-- P holds of it, in the same output
+pub record Outputs (P : List ℕ → Type 0) (r : Result ℕ Refusal) (old new : MutBor (List ℕ)) : Type 0 where
+  pub output : new.ghost_name ≡ old.ghost_name
+  pub inside : IfOk r (λ count. count ≤ length new.now)
+  pub holds : P (printed_of r new.now)
 
 -- 1, 2, 3 and 6 of a partner's list
 abbrev pub partner_list_refusal : ℕ → ℕ → List ℕ → ℕ

@@ -1,7 +1,7 @@
 -- What the printer writes.
-use Rattle.std.specs.Prelude.{◌≡◌, List, ℕ, ◌+◌, ◌*◌, length}
+use Rattle.std.specs.Prelude.{◌≡◌, List, ℕ, ◌+◌, ◌*◌, ◌/◌, length}
 use Rattle.std.proofs.lemmas.List.Edits.{sets}
-use Rattle.arith.specs.Bytes.{tab, numbers_at, front}
+use Rattle.arith.specs.Bytes.{tab, number_at, numbers_at, front}
 use Rattle.gates.specs.Written.{row_at}
 use Rattle.text.specs.Format.{File, tableau_file, list_file}
 
@@ -14,6 +14,10 @@ pub record PutsText (out : List ℕ) (at : ℕ) (text : List ℕ) (next : ℕ) (
 pub record Prints (text old : List ℕ) (r : ℕ) (new : List ℕ) : Type 0 where
   pub counts : r ≡ length text
   pub fronts : new ≡ front text old
+
+-- the numbers of the bytes
+abbrev pub all_numbers : List ℕ → List ℕ
+all_numbers b = tab (number_at b) (length b / 2)
 
 -- `count` columns of m numbers each; a tableau's 2n columns of 1 + 2n numbers
 abbrev pub columns_at : List ℕ → ℕ → ℕ → List (List ℕ)

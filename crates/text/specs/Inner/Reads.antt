@@ -7,7 +7,7 @@ use Rattle.text.specs.Convert.{full_columns}
 use Rattle.text.specs.declared.reading.Form.{Form}
 use Rattle.text.specs.declared.reading.Form.TheVariants.{TableHead, ListHead, Column, GateRow}
 use Rattle.text.specs.declared.reading.Field.{Field}
-use Rattle.text.specs.declared.reading.Field.TheVariants.{Empty, Number, Whole}
+use Rattle.text.specs.declared.reading.Field.TheVariants.{Empty, Number, Zero, Letter}
 use Rattle.text.specs.declared.reading.State.{State}
 use Rattle.text.specs.declared.reading.Contents.{Contents}
 use Rattle.text.specs.declared.reading.Contents.TheVariants.{Tableau, Rows, PartnerRows}
@@ -21,8 +21,8 @@ file_numbers (partner_file d n rows) = concatenated row_numbers rows
 -- the answer for a file
 abbrev pub reading_of : File → Contents
 reading_of (tableau_file d n columns) = Tableau (record { d = d; n = n; lines = length columns; full = full_columns n columns })
-reading_of (list_file d n rows) = Rows d n (length rows)
-reading_of (partner_file d n rows) = PartnerRows d n (length rows)
+reading_of (list_file d n rows) = Rows (record { d = d; n = n; lines = length rows })
+reading_of (partner_file d n rows) = PartnerRows (record { d = d; n = n; lines = length rows })
 
 -- the text is a T file of d, n and columns: their count, whether each has 1 + 2n numbers, and the numbers at the buffer's front
 pub record ColumnsRead (text before : List ℕ) (d n lines : ℕ) (full : Bool) (out : List ℕ) : Type 0 where
@@ -43,15 +43,15 @@ pub record RowsRead (file : ℕ → ℕ → List WrittenRow → File) (text befo
 abbrev pub Reads : List ℕ → List ℕ → Option Contents → List ℕ → Type 0
 Reads text before None out = (f : File) → LaidOut text f → ⊥
 Reads text before (Some (Tableau c)) out = ColumnsRead text before c.d c.n c.lines c.full out
-Reads text before (Some (Rows d n lines)) out = RowsRead list_file text before d n lines out
-Reads text before (Some (PartnerRows d n lines)) out = RowsRead partner_file text before d n lines out
+Reads text before (Some (Rows r)) out = RowsRead list_file text before r.d r.n r.lines out
+Reads text before (Some (PartnerRows r)) out = RowsRead partner_file text before r.d r.n r.lines out
 
 -- what the state at the end of the text answers: a whole file ends where a line would begin
 abbrev pub answer_at : Form → State → Option Contents
 answer_at TableHead s = None
 answer_at ListHead s = None
 answer_at Column s = Some (Tableau (record { d = s.d; n = s.n; lines = s.lines; full = s.full }))
-answer_at GateRow s = Some (Rows s.d s.n s.lines)
+answer_at GateRow s = Some (Rows (record { d = s.d; n = s.n; lines = s.lines }))
 
 abbrev pub whole_of : State → Option Contents
 whole_of s = cond (eqb s.place 0) (answer_at s.form s) None
@@ -59,13 +59,14 @@ whole_of s = cond (eqb s.place 0) (answer_at s.form s) None
 abbrev pub answer_of : Field → State → Option Contents
 answer_of Empty s = whole_of s
 answer_of (Number x) s = None
-answer_of (Whole x) s = None
+answer_of Zero s = None
+answer_of (Letter k) s = None
 
 -- the rows that were read are a partner's where the text's first byte is G
 abbrev pub partner_of : Contents → Contents
 partner_of (Tableau c) = Tableau c
-partner_of (Rows d n lines) = PartnerRows d n lines
-partner_of (PartnerRows d n lines) = PartnerRows d n lines
+partner_of (Rows r) = PartnerRows r
+partner_of (PartnerRows r) = PartnerRows r
 
 unfoldable pub named_of : ℕ → Contents → Contents
 named_of first r = cond (eqb first 71) (partner_of r) r

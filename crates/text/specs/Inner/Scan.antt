@@ -3,31 +3,34 @@ use Rattle.std.specs.Prelude.{Bool, true, false, cond, ◌&&◌, Option, None, S
 use Rattle.std.specs.Option.{option_map, option_and_then}
 use Rattle.std.proofs.lemmas.List.Edits.{sets}
 use Rattle.arith.specs.Bytes.{bytes_of}
+use Rattle.gates.specs.Kind.{kind_number}
+use Rattle.gates.specs.declared.kind.Kind.{Kind}
+use Rattle.gates.specs.declared.kind.Kind.TheVariants as kind
 use Rattle.text.specs.declared.reading.Form.{Form}
 use Rattle.text.specs.declared.reading.Form.TheVariants.{TableHead, ListHead, Column, GateRow}
 use Rattle.text.specs.declared.reading.Field.{Field}
-use Rattle.text.specs.declared.reading.Field.TheVariants.{Empty, Number, Whole}
+use Rattle.text.specs.declared.reading.Field.TheVariants.{Empty, Number, Zero, Letter}
 use Rattle.text.specs.declared.reading.State.{State}
 
 -- ---- a field
--- the kind of a row's letter, 0 where it is none
-unfoldable pub kind_of : ℕ → ℕ
+-- the kind that has a letter
+unfoldable pub kind_of : ℕ → Option Kind
 kind_of b =
-    cond (eqb b 70) 1
-    (cond (eqb b 83) 2
-    (cond (eqb b 65) 3
-    (cond (eqb b 77) 4
-    (cond (eqb b 88) 5
-    (cond (eqb b 90) 6
-    (cond (eqb b 67) 7
-    (cond (eqb b 87) 8 0)))))))
+    cond (eqb b 70) (Some kind.F)
+    (cond (eqb b 83) (Some kind.S)
+    (cond (eqb b 65) (Some kind.A)
+    (cond (eqb b 77) (Some kind.M)
+    (cond (eqb b 88) (Some kind.X)
+    (cond (eqb b 90) (Some kind.Z)
+    (cond (eqb b 67) (Some kind.C)
+    (cond (eqb b 87) (Some kind.W) None)))))))
 
 -- a field that b begins: a letter; a number
 unfoldable pub letter_field : ℕ → Option Field
-letter_field b = cond (eqb (kind_of b) 0) None (Some (Whole (kind_of b)))
+letter_field b = option_map Letter (kind_of b)
 
 unfoldable pub first_digit : ℕ → Option Field
-first_digit b = cond (ltb b 48) None (cond (ltb 57 b) None (cond (eqb b 48) (Some (Whole 0)) (Some (Number (b - 48)))))
+first_digit b = cond (ltb b 48) None (cond (ltb 57 b) None (cond (eqb b 48) (Some Zero) (Some (Number (b - 48)))))
 
 -- the number v with one digit more
 unfoldable pub next_digit : ℕ → ℕ → Option Field
@@ -37,13 +40,15 @@ next_digit v b = cond (ltb b 48) None (cond (ltb 57 b) None (cond (ltb 65535 (10
 abbrev pub grown_of : Field → Bool → ℕ → Option Field
 grown_of Empty due b = cond due (letter_field b) (first_digit b)
 grown_of (Number v) due b = next_digit v b
-grown_of (Whole v) due b = None
+grown_of Zero due b = None
+grown_of (Letter k) due b = None
 
--- what a field holds at its end
+-- what a field holds at its end; a letter is its kind's number
 abbrev pub value_of : Field → Option ℕ
 value_of Empty = None
 value_of (Number x) = Some x
-value_of (Whole x) = Some x
+value_of Zero = Some 0
+value_of (Letter k) = Some (kind_number k)
 
 -- ---- a line
 abbrev pub in_head : Form → Bool
@@ -136,7 +141,8 @@ start_of form = record { form = form; d = 0; n = 0; lines = 0; place = 0; count 
 abbrev pub used : Field → ℕ
 used Empty = 0
 used (Number x) = 1
-used (Whole x) = 1
+used Zero = 1
+used (Letter k) = 1
 
 pub record Within (i : ℕ) (s : State) : Type 0 where
   pub places : s.place ≤ i

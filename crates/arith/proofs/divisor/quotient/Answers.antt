@@ -10,23 +10,23 @@ returns-then-y-eq0 c =
     record { some = (sym (quotient_zero z.d z.a.0 z.b.0 (omega arith) (omega arith)), omega arith); none = tt }
 
 pub nonzero_rem-y : goal.nonzero_rem-y
-nonzero_rem-y c = divisor_pos c.args.d c.args.a.0 c.euclid-found.ensures.0 (omega arith)
+nonzero_rem-y c = divisor_pos c.args.d c.args.a.0 c.euclid-g.ensures.0 (omega arith)
 
 pub returns-then-y-g-ne0 : goal.returns-then-y-g-ne0
 returns-then-y-g-ne0 c =
     let y = c.value-y in
-    record { some = tt; none = sym (rw (sym y.ensures) (quotient_missing c.args.d c.args.a.0 c.euclid-found.ensures.0 (omega arith) y.result (λ e. omega arith))) }
+    record { some = tt; none = sym (rw (sym y.ensures) (quotient_missing c.args.d c.args.a.0 c.euclid-g.ensures.0 (omega arith) y.result (λ e. omega arith))) }
 
 pub remainder-requires : goal.remainder-requires
 remainder-requires c =
-    let r = c.euclid-found in
+    let r = c.euclid-g in
     let g = r.result.divisor in
     let pos = subst (λ (x : ℕ). 0 < x / g) (sym c.value-whole.ensures.value) (modulus_pos c.args.d c.args.a.0 r.ensures.0 (omega arith)) in
     omega (arith, pos, div-le_self c.value-whole.result g)
 
 pub returns : goal.returns
 returns c =
-    let y = c.value-y in let r = c.euclid-found in
+    let y = c.value-y in let r = c.euclid-g in
     let g = r.result.divisor in
     let pos = modulus_pos c.args.d c.args.a.0 r.ensures.0 (omega arith) in
     let is = c.lent.ensures ∙ c.remainder.ensures ∙ ap₂ (λ (x m : ℕ). y.result / g * x % m) c.value.ensures (ap (λ (x : ℕ). x / g) c.value-whole.ensures.value) in

@@ -3,5 +3,5 @@ use Rattle.std.proofs.Common.{◌≤◌, sym, arith}
 use native.Mathlib.Nat.{mod-eq-sub-mod}
 use Rattle.arith.proofs.residue.less_once.Goals as goal
 
-pub returns : goal.returns
-returns c = let a = c.args in let h : a.m ≤ a.x = omega arith in sym (mod-eq-sub-mod h)
+pub returns-clause-same : goal.returns-clause-same
+returns-clause-same c = let a = c.args in let h : a.m ≤ a.x = omega arith in sym (mod-eq-sub-mod h)

@@ -1,27 +1,15 @@
 -- `gates::Ready::act` meets its contract: what is done is the effect of the row's kind, and no legal row has another kind. The effects of X and Z
 -- are looked up, not named: so a program that exchanges them is refused at what it does.
-use Rattle.std.proofs.Common.{rules, ◌≡◌, ℕ, ap, refl, sym, ◌∙◌}
+use Rattle.std.proofs.Common.{rules, ◌≡◌, ℕ, ap, sym, ◌∙◌}
 use Rattle.gates.specs.declared.kind.Kind.{Kind as Code}
-use Rattle.gates.specs.declared.kind.Kind.TheVariants as code
-use Rattle.gates.specs.Kind.{kind_number, NoKind}
+use Rattle.gates.specs.Kind.{kind_number}
 use Rattle.gates.proofs.Acts.{acts_f, acts_s, acts_a, acts_m, acts_x, acts_z, acts_c, acts_w}
-use Rattle.gates.proofs.Written.{Kind, kind_f, kind_s, kind_a, kind_m, kind_x, kind_z, kind_c, kind_w, legal_sort}
+use Rattle.gates.proofs.Written.{no_kind, legal_kind}
 use Rattle.gates.proofs.Ready.act.Goals as goal
 
 -- the number of the kind that was found
 found : {k l : Code} {number : ℕ} → k ≡ l → kind_number k ≡ number → number ≡ kind_number l
 found e h = sym h ∙ ap kind_number e
-
--- and where none was found there is none
-numbered : {number : ℕ} → Kind number → NoKind kind_number number → ⊥
-numbered kind_f none = none code.F refl
-numbered kind_s none = none code.S refl
-numbered kind_a none = none code.A refl
-numbered kind_m none = none code.M refl
-numbered kind_x none = none code.X refl
-numbered kind_z none = none code.Z refl
-numbered kind_c none = none code.C refl
-numbered kind_w none = none code.W refl
 
 pub returns-in-Ok-F : goal.returns-in-Ok-F
 returns-in-Ok-F c n legal = acts_f _ _ (found c.in-Ok-F.field-0-is c.in-Ok-F.ensures) c.effect_f.ensures
@@ -48,4 +36,4 @@ pub returns-in-Ok-W : goal.returns-in-Ok-W
 returns-in-Ok-W c n legal = acts_w _ _ n legal (found c.in-Ok-W.field-0-is c.in-Ok-W.ensures) c.effect_w.ensures
 
 pub returns-in-Err : goal.returns-in-Err
-returns-in-Err c n legal = absurd (numbered (legal_sort c.args.d n _ legal) c.in-Err.ensures.1)
+returns-in-Err c n legal = absurd (legal_kind c.args.d n _ legal (no_kind c.args.d _ c.in-Err.ensures.1))

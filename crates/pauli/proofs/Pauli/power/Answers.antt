@@ -1,8 +1,9 @@
 -- `pauli::Pauli::power` meets its contract: the closed form (`power_closed`), whose phase has w·v times an even number.
-use Rattle.std.proofs.Common.{◌≡◌, sym, ◌∙◌, [], ◌∷◌, ℕ, zero, suc, ◌+◌, ◌*◌, ◌-◌, ◌%◌, ◌<◌, arith}
+use Rattle.std.proofs.Common.{rules, ◌≡◌, sym, ◌∙◌, [], ◌∷◌, ℕ, zero, suc, ◌+◌, ◌*◌, ◌-◌, ◌%◌, ◌<◌, arith}
 use native.Mathlib.Nat.{mul_assoc}
 use Rattle.arith.proofs.Cong.{Cong}
 use Rattle.arith.proofs.Ring.{ring₂, quote}
+use Rattle.pauli.specs.Inner.View.{at}
 use Rattle.pauli.proofs.Entries.{scaled_tab}
 use Rattle.pauli.proofs.Group.{power_closed, next_square}
 use Rattle.pauli.proofs.Ranges.{pauli_path}
@@ -26,7 +27,8 @@ power_phase d k h {x = x} pos e i j l =
 
 pub returns-clause-value : goal.returns-clause-value
 returns-clause-value c =
-    c.scaled.ensures.value
+    let a = c.args in
+    c.from_entries.ensures.value (λ i. a.k.0 * at a.self.v i % a.d) (λ i. a.k.0 * at a.self.w i % a.d) (λ i x z l e. search rules)
     ∙ pauli_path (power_phase _ _ _ (omega arith) (rw (c.value-2.ensures, c.value.ensures) at c.reduced-phase.ensures.value) c.ordered_pairs.ensures.0 c.reduced-twist.ensures.value c.sum_of_products.ensures.0)
     (sym (scaled_tab _ _ _ _)) (sym (scaled_tab _ _ _ _))
-    ∙ sym (power_closed c.args.d c.args.n c.args.k.0 (omega arith) c.requires.in_range)
+    ∙ sym (power_closed a.d a.n a.k.0 (omega arith) c.requires.in_range)

@@ -1,7 +1,9 @@
 -- `pauli::Pauli::product` meets its contract, part by part: the phase is reduced after each sum.
-use Rattle.std.proofs.Common.{◌≡◌, refl, ◌∙◌, [], ◌∷◌, ℕ, ◌+◌, ◌*◌, ◌%◌, ◌<◌, arith}
+use Rattle.std.proofs.Common.{rules, ◌≡◌, sym, ◌∙◌, [], ◌∷◌, ℕ, ◌+◌, ◌*◌, ◌%◌, ◌<◌, arith}
 use Rattle.arith.proofs.Cong.{Cong}
 use Rattle.arith.proofs.Ring.{ring₂, quote}
+use Rattle.pauli.specs.Inner.View.{at}
+use Rattle.pauli.proofs.Entries.{plus_tab}
 use Rattle.pauli.proofs.Ranges.{pauli_path}
 use Rattle.pauli.proofs.Pauli.product.Goals as goal
 
@@ -13,5 +15,7 @@ product_phase d a b {x = x} pos e f g h = rw (e, f, g, h) (reduced_sum d a b x p
 
 pub returns-clause-value : goal.returns-clause-value
 returns-clause-value c =
-    c.summed.ensures.value
-    ∙ pauli_path (product_phase _ _ _ (omega arith) c.plus-phase.ensures.value c.plus.ensures.value c.reduced-twist.ensures.value c.sum_of_products.ensures.0) refl refl
+    let a = c.args in
+    c.from_entries.ensures.value (λ i. (at a.self.v i + at a.other.v i) % a.d) (λ i. (at a.self.w i + at a.other.w i) % a.d) (λ i x z l e. search rules)
+    ∙ pauli_path (product_phase _ _ _ (omega arith) c.plus-phase.ensures.value c.plus.ensures.value c.reduced-twist.ensures.value c.sum_of_products.ensures.0)
+    (sym (plus_tab _ _ _ _)) (sym (plus_tab _ _ _ _))

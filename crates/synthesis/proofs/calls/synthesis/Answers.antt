@@ -51,8 +51,8 @@ count_fits d n bytes room z e =
     let h = w.0.width.n_high in
     omega (arith, e, (synthesis w.0.dimension.d_low (formed_given w.0) w.1).short, square_small n h, h)
 
-at : (c : In_ok-tests) → Passed c.args.d c.args.n c.args.tableau.now (length c.args.out.now) c.in_ok-modulus.modulus c.in_ok-modulus.width (table_view c.in_ok-modulus.width c.read_into.new.t)
-at c = let e = c.in_ok-modulus.ensures in passed _ _ _ _ _ _ _ e.refusal e.value c.read_into.ensures c.in_ok-tests.ensures
+at : (c : In_ok-tests) → Passed c.args.d c.args.n c.args.tableau.now (length c.args.out.now) c.in_ok-modulus.modulus c.in_ok-modulus.width (table_view c.in_ok-modulus.width c.read.new.self)
+at c = let e = c.in_ok-modulus.ensures in passed _ _ _ _ _ _ _ e.refusal e.value c.read.ensures c.in_ok-tests.ensures
 
 pub returns-in_err-modulus-clause-synthesised : goal.returns-in_err-modulus-clause-synthesised
 returns-in_err-modulus-clause-synthesised c =
@@ -60,8 +60,8 @@ returns-in_err-modulus-clause-synthesised c =
     let p = err_from_is_err_and c.from_residual.result c.from_residual.ensures.1 in
     rw (p.1, p.2) (promise_refused {A = ℕ} (stop_first _ _ (refusal_parts a.d a.n a.tableau.now (length a.out.now)) c.in_err-modulus.ensures.refusal refl) (refl, refl))
 
-pub read_into-requires : goal.read_into-requires
-read_into-requires c =
+pub read-requires : goal.read-requires
+read-requires c =
     let e = c.in_ok-modulus.ensures in
     record { size = (sized _ e.refusal).size ∙ ap (λ (p : ℕ × ℕ). tableau_bytes p.1) (sym e.value) }
 

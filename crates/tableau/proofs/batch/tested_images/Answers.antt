@@ -1,12 +1,11 @@
 -- `tableau::batch::tested_images` meets its contract: the tests and the images are of the tableau that the bytes hold.
-use Rattle.std.proofs.Common.{sym, ◌+◌, ◌*◌, rules}
-use Rattle.tableau.proofs.Bytes.{ranges_good}
+use Rattle.std.proofs.Common.{sym, rules}
 use Rattle.tableau.proofs.Accepted.{table_formed}
 use Rattle.tableau.proofs.Singles.{images_encoded}
 use Rattle.tableau.proofs.batch.tested_images.Goals as goal
 
 pub write_images-requires-clause-all_in_range : goal.write_images-requires-clause-all_in_range
-write_images-requires-clause-all_in_range c = ((table_formed c.args.tableau.now c.read_into.ensures (sym c.in_ok-range.ensures)).ranges, ranges_good (λ j. j * (1 + 2 * c.args.n)) c.args.batch.now _ (sym c.in_ok-ranges.ensures))
+write_images-requires-clause-all_in_range c = (table_formed c.args.tableau.now c.read.ensures (sym c.in_ok-range.ensures)).ranges
 
 pub returns : goal.returns
 returns c =

@@ -4,8 +4,8 @@ use Rattle.pauli.proofs.Encoding.{write_answer}
 use Rattle.tableau.proofs.Accepted.{given_size, lent_good, table_formed}
 use Rattle.tableau.proofs.calls.image.Goals as goal
 
-pub read_into-requires : goal.read_into-requires
-read_into-requires c = record { size = given_size (sym c.in_ok-modulus.ensures.refusal) c.in_ok-modulus.ensures.value }
+pub read-requires : goal.read-requires
+read-requires c = record { size = given_size (sym c.in_ok-modulus.ensures.refusal) c.in_ok-modulus.ensures.value }
 
 pub read-q-requires : goal.read-q-requires
 read-q-requires c =
@@ -14,7 +14,7 @@ read-q-requires c =
     omega arith
 
 pub image-requires : goal.image-requires
-image-requires c = record { all_in_range = (table_formed c.args.tableau.now c.read_into.ensures (sym c.in_ok-range.ensures)).ranges }
+image-requires c = record { all_in_range = (table_formed c.args.tableau.now c.read.ensures (sym c.in_ok-range.ensures)).ranges }
 
 pub write-requires : goal.write-requires
 write-requires c =

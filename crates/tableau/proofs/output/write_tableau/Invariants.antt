@@ -8,4 +8,4 @@ use Rattle.tableau.specs.Inner.View.{table_view}
 use Rattle.tableau.proofs.output.write_tableau.Given as goal
 
 abbrev pub invariant-loop-r : goal.invariant-loop-r
-invariant-loop-r l = table_view l.n l.t ≡ map (run l.d (map meant (tab (row_at l.list) l.r))) (units l.n)
+invariant-loop-r l = table_view l.list.n l.t ≡ map (run l.list.d (map meant (tab (row_at l.list.bytes.now) l.r))) (units l.list.n)

@@ -1,10 +1,15 @@
--- `synthesis::columns::Columns::no_v` meets its contract: v is 0 at i too.
-use mathlib.Core.Path.{◌≡◌, sym, ◌∙◌, ap}
-use mathlib.Core.Bool.{Bool, true, false, not, ◌&&◌}
-use Prim.Native.Nat.{ℕ, suc, ◌+◌, ◌-◌, ◌<◌}
+-- `synthesis::columns::Columns::no_v` meets its contract: the numbers that are gone through are those from `from` on.
+use mathlib.Core.Path.{◌≡◌, refl, ◌∙◌, ap}
+use mathlib.Core.Bool.{Bool, ◌&&◌}
+use Prim.Native.Nat.{ℕ, zero, suc, ◌-◌}
 use native.Mathlib.Numerals.{add-one}
 use native.Mathlib.Omega.{arith}
 use lib.Dec.{eqb}
+use borrow.Author.Tests.{tests}
+use Rattle.std.proofs.Common.{rules}
+use Rattle.std.specs.List.{list_all, range_with_len}
+use Rattle.std.proofs.lemmas.Iterator.{YieldsList-from_range}
+use Rattle.std.proofs.lemmas.Iterator.Search.{all_from_yields_List}
 use Rattle.pauli.specs.Pauli.{Pauli}
 use Rattle.tableau.specs.Tableau.{column, up_from}
 use Rattle.tableau.specs.Inner.View.{table_view}
@@ -12,21 +17,16 @@ use Rattle.synthesis.specs.Inner.Reduce.{no_v}
 use Rattle.synthesis.proofs.Entries.{v_of}
 use Rattle.synthesis.proofs.columns.Columns.no_v.Goals as goal
 
--- the qudits from i on
-abbrev none : ℕ → Pauli → ℕ → Bool
-none n p i = no_v p (up_from i (n - i))
+abbrev zero_at : Pauli → ℕ → Bool
+zero_at p i = eqb (v_of p i) 0
 
-next : (n : ℕ) (p : Pauli) (i : ℕ) → i < n → false ≡ not (eqb (v_of p i) 0) → none n p i ≡ none n p (i + 1)
-next n p i l z =
-    let e : n - i ≡ suc (n - (i + 1)) = omega arith in
-    ap (λ (m : ℕ). no_v p (up_from i m)) e ∙ passed (eqb (v_of p i) 0) z (ap (λ (x : ℕ). no_v p (up_from x (n - (i + 1)))) (sym (add-one i)))
-  where
-    passed : (test : Bool) {a b : Bool} → false ≡ not test → a ≡ b → (test && a) ≡ b
-    passed true f g = g
-    passed false f g = cc
+all_zero : (p : Pauli) (a m : ℕ) → list_all (zero_at p) (range_with_len a m) ≡ no_v p (up_from a m)
+all_zero p a zero = refl
+all_zero p a (suc m) = ap (λ (t : Bool). zero_at p a && t) (ap (λ (i : ℕ). list_all (zero_at p) (range_with_len i m)) (add-one a) ∙ all_zero p (suc a) m)
 
-pub loop-i-preserved : goal.loop-i-preserved
-loop-i-preserved c =
+pub returns : goal.returns
+returns c =
     let t = c.args.self.now in
-    let e = c.if-ne.ensures in
-    c.loop-i.invariant ∙ next t.n (column t.n (table_view t.n t.table) c.args.c) c.loop-i.i (omega arith) (rw c.v.ensures at e)
+    let p = column t.n (table_view t.n t.table) c.args.c in
+    all_from_yields_List (zero_at p) _ _ c.all.result c.all.ensures.ran (YieldsList-from_range c.args.from c.value.result (t.n - c.args.from) refl (omega arith)) (λ x b q k. search (rules, tests))
+    ∙ all_zero p c.args.from (t.n - c.args.from)

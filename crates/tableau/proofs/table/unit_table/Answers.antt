@@ -1,7 +1,0 @@
--- `tableau::table::unit_table` meets its contract: a fresh table has zeros.
-use Rattle.std.proofs.Common.{refl}
-use Rattle.tableau.proofs.Views.{fresh_column}
-use Rattle.tableau.proofs.table.unit_table.Goals as goal
-
-pub set_units-requires : goal.set_units-requires
-set_units-requires c = record { zero = fresh_column c.args.n _ _ refl refl refl refl }
