@@ -32,6 +32,7 @@ fn convert_stream<R: Read, W: Write>(reader: &mut R, writer: &mut W) -> io::Resu
     ensures { OnOk result (IfSome (R.remaining reader.old) (λ xs.
         (output : List ℕ) × WrittenFor xs output × Appends (W.contents writer.old) (W.contents writer.new) output)) }
 {
+    // buffers of fixed size, the largest that an input can need: there is no heap
     let mut buffer = [0u8; 65537];
     let input = read_input(reader, &mut buffer);
     let mut numbers = [0u8; 65536];

@@ -47,7 +47,7 @@ fn within(low: usize, high: usize, x: usize) -> bool
     (low..=high).contains(&x)
 }
 
-// The highest legal power of a kind, by its number: 0 where no kind has it. It is looked up: tried, with a match on the kind, whose jump the processor guesses wrongly for most rows, ticks take nearly twice as long.
+// The highest legal power of a kind, by its number, as `Row.kind` is one: 0 where no kind has it. It is looked up: tried, with a match on the kind, whose jump the processor guesses wrongly for most rows, ticks take nearly twice as long.
 pub fn highest_power(kind: u16, d: Modulus) -> u16
     ensures { result ≡ highest d kind }
 {
@@ -68,7 +68,7 @@ const C: u16 = Kind::C as u16;
 
 const W: u16 = Kind::W as u16;
 
-// Whether the kind of this number takes a second qudit.
+// Whether the kind of this number takes a second qudit. A number, as `Row.kind` is.
 pub fn takes_two(kind: u16) -> bool
     ensures { result ≡ takes_two kind }
 {
@@ -221,7 +221,7 @@ impl Row {
 // What a row makes of the numbers that it touches: a method for the kinds on one qudit and one for those on two, each for a loop over columns of its own.
 // Those two ask the kind's number by one test after the other, as `apply` does: tried, with a match on the kind the jump takes longer in such a loop too.
 impl Ready {
-    // What the row makes of the numbers that it touches.
+    // What the row makes of the numbers that it touches. For a caller who has a row of either sort; the library itself calls the two below.
     pub fn act(self, t: Touched, d: Modulus) -> Touched
         requires { InverseRight d self }
         ensures { (n : ℕ) → legal_row d n (view_row self.row) ≡ true → Acts d (view_row self.row) (view_touched t) (view_touched result) }

@@ -45,7 +45,7 @@ pub fn list_legal(list: &[u8], d: Modulus, n: usize) -> Result<(), Refusal>
     rows_pass(list, |row| row.legal(d, n))
 }
 
-// A list whose rows are all legal, with d and n. What needs legal rows takes this and not the bytes, so that no contract asks for the test again; but for `list_ticks`, whose promise is for every d, which a `Modulus` would narrow.
+// A list whose rows are all legal, with d and n. What needs legal rows takes this and not the bytes, so that no contract asks for the test again; but for `list_ticks`, whose promise is for every d, which a `Modulus` would narrow, and text's `translate`, which changes the list in place.
 #[derive(Clone, Copy)]
 pub struct LegalList<'a> {
     pub bytes: &'a [u8],

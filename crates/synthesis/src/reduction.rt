@@ -1,5 +1,6 @@
 // The reduction of a tableau to the unit Paulis: a stage for each qudit, after which two columns more are units up to phase; then the phases.
 // Each row is put behind every column in place, and its undo row is written to the output.
+// Its loops go by the numbers of qudits: each step makes a row on qudit j, and its contract speaks of column c at j.
 ghost use Rattle.std.specs.Prelude.{◌≡◌, ℕ, suc, ◌+◌, ◌*◌, ◌-◌, ◌≤◌, ◌<◌, IfSome, Option, true};
 ghost use Rattle.gates.specs.Written.{legal_row};
 ghost use Rattle.gates.specs.Inner.View.{view_row};

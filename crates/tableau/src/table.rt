@@ -71,7 +71,7 @@ impl Table {
 // ---- bytes
 
 impl Column {
-    // Reads the column whose numbers start at number k of the bytes.
+    // Reads the column whose numbers start at number k of the bytes. By places, as pauli/src/bytes.rt: i is the number's place in the bytes.
     #[tactic(auto, using(pauli::proofs::Entries::fill_more, arith::proofs::Bytes::tab_none), unfolding(crate::specs::Inner::View::column_view))]
     fn read(&mut self, b: &[u8], k: usize, n: Width)
         requires width { 2 * (k + 1 + 2 * n) ≤ length b.now }
@@ -160,7 +160,7 @@ fn act<const TWO: bool>(row: Ready, t: Touched, d: Modulus) -> Touched
 }
 
 impl Column {
-    // The numbers that a row on i and j touches.
+    // The numbers that a row on i and j touches, as `Pauli::touched` gives them: a column is no Pauli (column.rt). That i and j are places is a clause, for the reason in pauli/src/effects.rt.
     #[tactic(auto, using(crate::proofs::Views::column_touched))]
     fn touched(&self, i: usize, j: usize) -> Touched
         requires { (i < 16) × (j < 16) }

@@ -18,7 +18,7 @@ pub mod partner;
 pub mod printing;
 pub mod reading;
 
-// What a text is converted in: room for the numbers that are read, for a call's answer, and for what is printed.
+// What a text is converted in: room for the numbers that are read, for a call's answer, and for what is printed. Lent, since nothing here allocates.
 #[derive(Drop)]
 struct Buffers<'a> {
     numbers: &'a mut [u8],

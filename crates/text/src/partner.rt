@@ -55,7 +55,7 @@ fn our_row(row: Row, d: Modulus) -> Row
     row
 }
 
-// Translates the rows of the list in place. Only powers change. It goes by the rows' numbers: of a slice that is written by its chunks (`chunks_exact_mut`) the
+// Translates the rows of the list in place. Only powers change. It takes no `LegalList`, which lends the bytes to be read alone. It goes by the rows' numbers: of a slice that is written by its chunks (`chunks_exact_mut`) the
 // library says the length alone.
 pub fn translate(list: &mut [u8], d: Modulus)
     requires { (n : ℕ) × (all_legal_rows d n (list_rows list.old) ≡ true) }

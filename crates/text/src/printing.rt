@@ -56,7 +56,7 @@ fn print_column(out: &mut [u8], at: usize, numbers: &[u8]) -> usize
     print_field(out, next, arith::numbers::get(numbers, last), b'\n')
 }
 
-// Writes a row: the letter of its kind, 0 for no kind, and three numbers.
+// Writes a row: the letter of its kind, and three numbers. 0 is written for no kind, since `row_line` has a byte for every number of a kind.
 fn print_row(out: &mut [u8], at: usize, row: Row) -> usize
     requires { at + 20 ≤ length out.old }
     ensures { (PutsText out.old at (row_line (view_row row)) result out.new) × (result ≤ at + 20) }

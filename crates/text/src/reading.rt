@@ -57,7 +57,7 @@ pub struct Columns {
     pub full: bool,
 }
 
-// The rows of an L or G file, as they are counted.
+// The rows of an L or G file, as they are counted. No `Columns`: each row has three numbers, or the reading has ended.
 #[derive(Clone, Copy)]
 pub struct Rows {
     pub d: u16,
