@@ -70,7 +70,8 @@ pub fn write_tableau(list: &LegalList<'_>, out: &mut [u8])
     requires room { tableau_bytes list.now.n ≤ length out.old }
     ensures { out.new ≡ front (tableau_answer list.now.d list.now.n list.now.bytes.now) out.old }
 {
-    let mut t = Table::units(list.n);
+    let mut t = Table::ZERO;
+    t.set_units(list.n);
     for r in 0..list.count() {
         t.put(list.row(r), list.d, list.n);
     }

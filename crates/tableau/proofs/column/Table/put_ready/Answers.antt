@@ -11,8 +11,8 @@ use Rattle.tableau.proofs.column.Table.put_ready.Goals as goal
 pub overflow_sub-i : goal.overflow_sub-i
 overflow_sub-i g c = (legal_first _ _ _ c.requires.legal.0).0
 
-pub other-j-requires : goal.other-j-requires
-other-j-requires g c = ((legal_first _ _ _ c.requires.legal.0).0, λ two. (legal_second_lem _ _ _ c.requires.legal.0 two).0)
+pub other-j-requires-clause-from_one : goal.other-j-requires-clause-from_one
+other-j-requires-clause-from_one g c = ((legal_first _ _ _ c.requires.legal.0).0, λ two. (legal_second_lem _ _ _ c.requires.legal.0 (c.requires.sort ∙ two)).0)
 
 pub changing-rest-requires : goal.changing-rest-requires
 changing-rest-requires g c = record { places = row_qudits c.args.d c.args.n (view_row c.args.row.row) c.requires.legal.0 c.other-j.ensures }
