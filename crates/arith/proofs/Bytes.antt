@@ -86,6 +86,27 @@ number_bytes (x ∷ xs) rest (suc k) h =
     let f : 2 * suc k + 1 ≡ suc (suc (2 * k + 1)) = omega arith in
     rw (f, e) (number_bytes xs rest k (le_of_suc-le-suc h))
 
+-- the bytes of the numbers that bytes hold are these bytes, if each is below 256 and none is left over
+pub bytes_numbers : (b : List ℕ) (m : ℕ) → length b ≡ 2 * m → ((i : ℕ) → get_or b i 0 < 256) → bytes_of (tab (number_at b) m) ≡ b
+unfolding tab number_at bytes_of
+bytes_numbers [] zero e h = refl
+bytes_numbers [] (suc m) e h = absurd (omega arith)
+bytes_numbers (x ∷ b) zero e h = absurd (omega arith)
+bytes_numbers (x ∷ []) (suc m) e h = absurd (omega arith)
+bytes_numbers (x ∷ y ∷ b) (suc m) e h = λ k. low k ∷ high k ∷ (ap bytes_of later ∙ bytes_numbers b m (omega arith) (λ i. h (suc (suc i)))) k
+  where
+    low : (x + 256 * y) % 256 ≡ x
+    low = omega (arith, h 0)
+
+    high : (x + 256 * y) / 256 ≡ y
+    high = omega (arith, h 0)
+
+    later : tab (λ i. get_or (x ∷ y ∷ b) (2 * suc i) 0 + 256 * get_or (x ∷ y ∷ b) (2 * suc i + 1) 0) m ≡ tab (λ i. get_or b (2 * i) 0 + 256 * get_or b (2 * i + 1) 0) m
+    later = tab_ext _ _ m (λ i l.
+        let e : 2 * suc i ≡ suc (suc (2 * i)) = omega arith in
+        let f : 2 * suc i + 1 ≡ suc (suc (2 * i + 1)) = omega arith in
+        rw (f, e) refl)
+
 -- ---- writing
 -- stores in a row
 pub sets_append : (l : List ℕ) (i : ℕ) (a b : List ℕ) → sets l i (a ++ b) ≡ sets (sets l i a) (i + length a) b

@@ -1,12 +1,13 @@
 -- Rows as they are written: the legal ones are exactly what legal rows are written as, and what is encoded is decoded again. Assumes nothing.
 use mathlib.Core.Path.{◌≡◌, refl, sym, ap, ap₂, ◌∙◌}
 use mathlib.Core.Logic.{◌↔◌, ◌≢◌}
-use mathlib.Core.List.{List, [], ◌∷◌, ◌++◌, map, append-nil}
+use mathlib.Core.List.{List, [], ◌∷◌, ◌++◌, map, append_assoc, append-nil}
 use mathlib.Core.Bool.{Bool, true, false, not, ◌&&◌, cond, and_assoc, true≢false}
-use Prim.Native.Nat.{ℕ, zero, suc, ◌+◌, ◌*◌, ◌-◌, ◌/◌, ◌≤◌, ◌<◌}
-use native.Mathlib.Nat.{le_of_suc-le-suc, not-suc-le-zero}
+use Prim.Native.Nat.{ℕ, zero, suc, ◌+◌, ◌*◌, ◌-◌, ◌/◌, ◌%◌, ◌≤◌, ◌<◌}
+use native.Mathlib.Nat.{le_of_suc-le-suc, not-suc-le-zero, mod-add-div}
 use native.Mathlib.Omega.{arith}
-use lib.ListN.{length, get_or, get_or-append}
+use lib.ListN.{length, take, drop, get_or, get_or-append, take-append-drop, length-drop}
+use lib.Seq.{length-take-le}
 use Rattle.std.proofs.lemmas.List.{get_or-append-add, length-append}
 use lib.Dec.{leb, eqb}
 use borrow.Author.Tests.{leb-true, eqb-true, eqb-false, not-true, le-leb, eq-eqb, ne_eqb}
@@ -389,6 +390,25 @@ rows_front x t e =
 
 pub rows_none : (s : List ℕ) → length s < 8 → list_rows s ≡ []
 rows_none s h = let n : length s / 8 ≡ 0 = omega arith in ap (tab (row_at s)) n ∙ tab_none (row_at s)
+
+-- whole rows, and others put behind them
+rows_behind : (m : ℕ) (xs ys : List ℕ) → length xs ≡ 8 * m → list_rows (xs ++ ys) ≡ list_rows xs ++ list_rows ys
+rows_behind zero [] ys e = ap (λ (ws : List WrittenRow). ws ++ list_rows ys) (sym (rows_none [] (omega arith)))
+rows_behind zero (b ∷ xs) ys e = absurd (omega arith)
+rows_behind (suc m) xs ys e =
+    ap list_rows (ap (λ (l : List ℕ). l ++ ys) (sym cut) ∙ append_assoc (take 8 xs) (drop 8 xs) ys)
+    ∙ rows_front (take 8 xs) (drop 8 xs ++ ys) whole
+    ∙ ap (λ (ws : List WrittenRow). row_at (take 8 xs) 0 ∷ ws) (rows_behind m (drop 8 xs) ys (omega (arith, length-drop 8 xs)))
+    ∙ ap (λ (ws : List WrittenRow). ws ++ list_rows ys) (sym (rows_front (take 8 xs) (drop 8 xs) whole) ∙ ap list_rows cut)
+  where
+    cut : take 8 xs ++ drop 8 xs ≡ xs
+    cut = take-append-drop 8 xs
+
+    whole : length (take 8 xs) ≡ 8
+    whole = length-take-le 8 xs (omega (arith, e))
+
+pub rows_append : (xs ys : List ℕ) → length xs % 8 ≡ 0 → list_rows (xs ++ ys) ≡ list_rows xs ++ list_rows ys
+rows_append xs ys e = rows_behind (length xs / 8) xs ys (omega (arith, mod-add-div (length xs) 8))
 
 -- a loop over the bytes, row by row: the first row of those left passes, or fails, or there is none
 module _ (test : WrittenRow → Bool) where

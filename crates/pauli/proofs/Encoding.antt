@@ -1,18 +1,19 @@
 -- The layout of a Pauli: its lengths, its parts written one after the other, a Pauli as the answer of a call, and decoding what was encoded. Assumes nothing.
 use mathlib.Core.Path.{◌≡◌, refl, sym, ap, ◌∙◌}
 use mathlib.Core.List.{List, [], ◌∷◌, ◌++◌, append_assoc}
-use Prim.Native.Nat.{ℕ, ◌+◌, ◌*◌, ◌≤◌, ◌<◌}
+use Prim.Native.Nat.{ℕ, suc, ◌+◌, ◌*◌, ◌≤◌, ◌<◌}
 use native.Mathlib.Nat.{add-zero}
 use native.Mathlib.Omega.{arith}
 use lib.ListN.{length, get_or, get_or-append, length-append}
 use lib.Seq.{sets, get_or-append-add}
 use Rattle.arith.specs.Bytes.{tab, number_at, numbers_at, bytes_of, front}
-use Rattle.arith.proofs.Bytes.{tab_ext, tab_length, tab_list, number_bytes, bytes_length, write_more, write_front}
-use Rattle.pauli.specs.Pauli.{Pauli, InRange}
+use Rattle.arith.proofs.Bytes.{tab_cons, tab_ext, tab_length, tab_list, tab_append, number_bytes, bytes_length, write_more, write_front}
+use Rattle.pauli.specs.Pauli.{Pauli, Below, none, more, InRange}
 use Rattle.pauli.specs.Bytes.{pauli_bytes, decode_at, decode, numbers_of, encode}
 use Rattle.pauli.specs.Range.{pauli_range_of}
 use Rattle.pauli.specs.Inner.View.{at, view}
 use Rattle.pauli.specs.declared.Pauli.{Pauli as Code}
+use Rattle.pauli.proofs.Lists.{append_below}
 use Rattle.pauli.proofs.Ranges.{pauli_path}
 use Rattle.pauli.proofs.RangeChecks.{range_good}
 
@@ -83,3 +84,27 @@ decode_encode n p rest ev ew = ap (λ (l : List ℕ). decode n (bytes_of l ++ re
     append_nil : (l : List ℕ) → l ++ [] ≡ l
     append_nil [] = refl
     append_nil (x ∷ l) = ap (λ (m : List ℕ). x ∷ m) (append_nil l)
+
+-- the numbers of what is decoded are the numbers that stand there
+pub numbers_decoded : (n k : ℕ) (b : List ℕ) → numbers_of (decode_at n k b) ≡ numbers_at b k (1 + 2 * n)
+numbers_decoded n k b =
+    ap (λ (l : List ℕ). number_at b k ∷ l) (ap (λ (l : List ℕ). numbers_at b (k + 1) n ++ l) (tab_ext _ _ n (λ i l. at_number (omega arith))) ∙ sym (tab_append (λ i. number_at b (k + 1 + i)) n n) ∙ tab_ext _ _ (n + n) (λ i l. at_number (omega arith)))
+    ∙ ap (λ (x : ℕ). x ∷ tab (λ i. number_at b (k + suc i)) (n + n)) (at_number (omega arith))
+    ∙ sym (tab_cons (λ i. number_at b (k + i)) (n + n))
+    ∙ ap (λ (m : ℕ). numbers_at b k m) (omega arith)
+  where
+    at_number : {i j : ℕ} → i ≡ j → number_at b i ≡ number_at b j
+    at_number e = ap (number_at b) e
+
+-- ---- each number in two bytes, where it is below 65,536
+pub bytes_below : {xs : List ℕ} → Below 65536 xs → Below 256 (bytes_of xs)
+unfolding bytes_of
+bytes_below none = none
+bytes_below (more l b) = more (omega arith) (more (omega (arith, l)) (bytes_below b))
+
+pub numbers_below : {d n : ℕ} {p : Pauli} → 2 * d ≤ 65536 → InRange d n p → Below 65536 (numbers_of p)
+numbers_below {d} h a = more (omega (arith, a.phase_below)) (append_below (widened a.v_below) (widened a.w_below))
+  where
+    widened : {xs : List ℕ} → Below d xs → Below 65536 xs
+    widened none = none
+    widened (more l b) = more (omega arith) (widened b)

@@ -1,23 +1,24 @@
--- A tableau in bytes: where its columns stand, what is decoded, and what a loop has written that writes column after column. Assumes nothing.
+-- A tableau in bytes: where its columns stand, what is decoded, that either way leads back, and what a loop has written that writes column after column. Assumes nothing.
 use mathlib.Core.Path.{◌≡◌, refl, sym, ap, ◌∙◌}
 use mathlib.Core.List.{List, [], ◌∷◌, ◌++◌, append_assoc, append-nil}
 use Prim.Native.Nat.{ℕ, zero, suc, ◌+◌, ◌*◌, ◌≤◌, ◌<◌}
-use native.Mathlib.Nat.{mul-le-mul, zero-add, le_refl}
+use native.Mathlib.Nat.{mul-le-mul, le_refl}
 use native.Mathlib.Omega.{arith}
 use lib.ListN.{length, take, drop, length-append}
 use lib.Seq.{sets, length-sets, split_at, length-take-le}
-use Rattle.arith.specs.Bytes.{tab, bytes_of, front}
-use Rattle.arith.proofs.Bytes.{tab_none, tab_more, tab_length, tab_ext, tab_list, bytes_length, write_more, write_front}
+use Rattle.arith.specs.Bytes.{tab, number_at, bytes_of, front}
+use Rattle.arith.proofs.Bytes.{tab_none, tab_more, tab_length, tab_ext, tab_list, tab_append, bytes_length, bytes_numbers, write_more, write_front}
 use Rattle.arith.proofs.Refusals.{or_else_none}
 use Rattle.arith.proofs.Passes.{both_pass}
-use Rattle.pauli.specs.Pauli.{Pauli, InRange, phase_only}
+use Rattle.pauli.specs.Pauli.{Pauli, Below, none, InRange, phase_only}
 use Rattle.pauli.specs.Bytes.{decode_at, numbers_of, encode}
 use Rattle.pauli.specs.declared.Pauli.{Pauli as Code}
 use Rattle.pauli.specs.Inner.View.{at, entries, view}
 use Rattle.pauli.specs.Range.{pauli_range_of}
+use Rattle.pauli.proofs.Lists.{get_d_below, append_below}
 use Rattle.pauli.proofs.Ranges.{entries_length}
 use Rattle.pauli.proofs.RangeChecks.{pauli_passes}
-use Rattle.pauli.proofs.Encoding.{decode_range, decode_at_encode}
+use Rattle.pauli.proofs.Encoding.{decode_range, decode_at_encode, numbers_decoded, numbers_below, bytes_below}
 use Rattle.tableau.specs.Tableau.{column, AllInRange, none, more, WellFormed}
 use Rattle.tableau.specs.Bytes.{tableau_bytes, column_at, decode_tableau, tableau_numbers, encode_tableau}
 use Rattle.tableau.specs.Range.{tableau_range_of}
@@ -100,6 +101,33 @@ decode_encode {n = n} {t} rest pos g =
     tab_ext _ (column n t) (2 * n) (λ j l. column_encode rest j pos g.ranges (omega (arith, g.columns)))
     ∙ ap (tab (column n t)) (sym g.columns) ∙ tab_list (phase_only n 0) t
 
+-- ---- and what is decoded is encoded again to the bytes that it stood in, where they are bytes, as many as the layout says
+numbers_table : (n : ℕ) (b : List ℕ) (m : ℕ) → tableau_numbers (tab (λ j. column_at n j b) m) ≡ tab (number_at b) (m * (1 + 2 * n))
+numbers_table n b zero = ap tableau_numbers (tab_none (λ j. column_at n j b)) ∙ sym (tab_none (number_at b)) ∙ ap (tab (number_at b)) (omega arith)
+numbers_table n b (suc m) =
+    ap (λ (k : ℕ). tableau_numbers (tab column_of k)) (omega arith)
+    ∙ ap tableau_numbers (tab_more column_of m)
+    ∙ numbers_append (tab column_of m) (column_of m ∷ [])
+    ∙ (λ k. numbers_table n b m k ++ (append-nil (numbers_of (column_of m)) ∙ numbers_decoded n (m * (1 + 2 * n)) b) k)
+    ∙ sym (tab_append (number_at b) (m * (1 + 2 * n)) (1 + 2 * n))
+    ∙ ap (tab (number_at b)) (omega arith)
+  where
+    column_of : ℕ → Pauli
+    column_of j = column_at n j b
+
+pub encode_decode : (n : ℕ) (b : List ℕ) → length b ≡ tableau_bytes n → Below 256 b → encode_tableau (decode_tableau n b) ≡ b
+unfolding decode_tableau encode_tableau
+encode_decode n b size below = ap bytes_of (numbers_table n b (2 * n)) ∙ bytes_numbers b (2 * n * (1 + 2 * n)) size (λ i. get_d_below i (omega arith) below)
+
+-- what is encoded are bytes, where every number is below 65,536
+pub encode_below : {d n : ℕ} {t : List Pauli} → 2 * d ≤ 65536 → AllInRange d n t → Below 256 (encode_tableau t)
+unfolding encode_tableau
+encode_below {d} {n} h rs = bytes_below (all_below rs)
+  where
+    all_below : {t : List Pauli} → AllInRange d n t → Below 65536 (tableau_numbers t)
+    all_below none = none
+    all_below (more r rs) = append_below (numbers_below h r) (all_below rs)
+
 -- ---- writing
 -- a Pauli of the code has 1 + 2n numbers
 pub view_length : (n : ℕ) (q : Code) → length (numbers_of (view n q)) ≡ 1 + 2 * n
@@ -156,27 +184,15 @@ pub columns_none : (g : ℕ → Pauli) (old : List ℕ) → ColumnsWritten g old
 unfolding encode_tableau bytes_of
 columns_none g old = record { size = refl; bytes = rw (tab_none g) refl }
 
+-- as many numbers as columns of this length have: so it is what a loop over Paulis has made
+columns_paulis : (n : ℕ) (g : ℕ → Pauli) {old new : List ℕ} {j : ℕ} → ((i : ℕ) → length (numbers_of (g i)) ≡ 1 + 2 * n) → ColumnsWritten g old new j → PaulisWritten n g old new j
+columns_paulis n g {j = j} h w = record { size = w.size; numbers = columns_length n g j h; bytes = w.bytes }
+
 -- after column j
 pub columns_next : (n : ℕ) (g : ℕ → Pauli) {old new next : List ℕ} (j : ℕ) {q : Pauli} → ((i : ℕ) → length (numbers_of (g i)) ≡ 1 + 2 * n) → q ≡ g j
     → ColumnsWritten g old new j → next ≡ sets new (2 * (j * (1 + 2 * n))) (encode q) → ColumnsWritten g old next (j + 1)
-unfolding encode_tableau
-columns_next n g {old} {new} {next} j {q} h e w p = record {
-  size = ap length p ∙ length-sets new (2 * (j * (1 + 2 * n))) (encode q) ∙ w.size;
-  bytes =
-      p
-      ∙ rw (w.bytes, e) (write_more old 0 (j * (1 + 2 * n)) (tableau_numbers (tab g j)) (numbers_of (g j)) before ∙ ap (λ (z : List ℕ). sets old (2 * 0) (bytes_of z)) one_more);
-}
-  where
-    before : j * (1 + 2 * n) ≡ 0 + length (tableau_numbers (tab g j))
-    before = sym (zero-add _ ∙ columns_length n g j h)
-
-    one_more : tableau_numbers (tab g j) ++ numbers_of (g j) ≡ tableau_numbers (tab g (j + 1))
-    one_more = ap (λ (z : List ℕ). tableau_numbers (tab g j) ++ z) (sym (append-nil (numbers_of (g j)))) ∙ sym (numbers_append (tab g j) (g j ∷ [])) ∙ ap tableau_numbers (sym (tab_more g j))
+columns_next n g j h e w p = let z = paulis_next n g j (rw e (h j)) e (columns_paulis n g h w) p in record { size = z.size; bytes = z.bytes }
 
 -- after the last of m: all of them at the front of an output that has room
 pub columns_all : (n m : ℕ) {t : List Pauli} (g : ℕ → Pauli) {old new : List ℕ} {j : ℕ} → j ≡ m → t ≡ tab g m → ((i : ℕ) → length (numbers_of (g i)) ≡ 1 + 2 * n) → 2 * (m * (1 + 2 * n)) ≤ length old → ColumnsWritten g old new j → new ≡ front (encode_tableau t) old
-unfolding encode_tableau
-columns_all n m {t = t} g {old} e table h room w =
-    w.bytes
-    ∙ ap (λ (z : List Pauli). sets old (2 * 0) (bytes_of (tableau_numbers z))) (ap (tab g) e ∙ sym table)
-    ∙ write_front old (bytes_of (tableau_numbers t)) (omega (arith, bytes_length (tableau_numbers t), ap (λ (z : List Pauli). length (tableau_numbers z)) table, columns_length n g m h))
+columns_all n m g {old} e table h room w = paulis_all n m g e room (columns_paulis n g h w) ∙ ap (λ (z : List Pauli). front (encode_tableau z) old) (sym table)

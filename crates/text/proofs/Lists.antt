@@ -91,7 +91,7 @@ unfolding concatenated
 columns_concatenated [] = refl
 columns_concatenated (c ∷ cs) = ap (λ (l : List ℕ). numbers_of c ++ l) (columns_concatenated cs)
 
-columns_full : {d n : ℕ} {t : List Pauli} → AllInRange d n t → full_columns n (map numbers_of t) ≡ true
+pub columns_full : {d n : ℕ} {t : List Pauli} → AllInRange d n t → full_columns n (map numbers_of t) ≡ true
 unfolding full_columns
 columns_full none = refl
 columns_full {n = n} (more {c = c} r rs) = ap₂ (λ (a b : Bool). a && b) (eq-eqb (length (numbers_of c)) (1 + 2 * n) (omega (arith, entries_length r))) (columns_full rs)

@@ -4,7 +4,7 @@ use mathlib.Core.Logic.{◌↔◌, ◌⊎◌, inl, inr, ◌≢◌}
 use mathlib.Core.Bool.{Bool, true, false}
 use mathlib.Core.List.{List, [], ◌∷◌, ◌++◌, map, append-nil}
 use Rattle.std.specs.Prelude.{Result, Ok, Err}
-use Prim.Native.Nat.{ℕ, suc, ◌+◌, ◌*◌, ◌≤◌}
+use Prim.Native.Nat.{ℕ, ◌+◌, ◌*◌, ◌≤◌}
 use native.Mathlib.Omega.{arith}
 use lib.ListN.{length, take, length-map, length-append}
 use lib.Seq.{take_at, drop_at}
@@ -14,11 +14,12 @@ use Rattle.arith.specs.declared.checks.Refusal.{Refusal}
 use Rattle.arith.specs.declared.checks.Refusal.TheVariants.{Length}
 use Rattle.arith.specs.Refusals.{refusal_number, number_of, or_else, given_of, size_of, room_of, unless_holds}
 use Rattle.arith.specs.declared.checks.Answer.{Answer}
-use Rattle.arith.proofs.Bytes.{tab_cons, tab_append, tab_ext, tab_length, tab_map, bytes_length}
+use Rattle.arith.proofs.Bytes.{tab_ext, tab_length, tab_map, bytes_length}
 use Rattle.arith.proofs.Refusals.{Given, good, stop, not_zero, or_else_none, or_else_past, or_else_assoc, given_good, size_good, held, both_held}
 use Rattle.arith.proofs.Passes.{size_passes, room_passes}
 use Rattle.pauli.specs.Pauli.{Pauli}
-use Rattle.pauli.specs.Bytes.{decode_at}
+use Rattle.pauli.specs.Bytes.{numbers_of, decode_at}
+use Rattle.pauli.proofs.Encoding.{numbers_decoded}
 use Rattle.gates.specs.Row.{Row, F, S, A, M, X, Z, C, W, Legal}
 use Rattle.gates.specs.Written.{WrittenRow, written, meant, legal_row, all_rows, all_legal_rows, list_rows}
 use Rattle.gates.proofs.Written.{written_meant, legal_meant}
@@ -35,26 +36,14 @@ use Rattle.text.proofs.Digits.{five_digits}
 use Rattle.text.proofs.Back.{full_length, columns_back}
 use Rattle.text.proofs.Unique.{refusal_unique, refusal_no_list}
 
+-- ---- a Pauli's numbers are read as the Pauli again
+pub pauli_numbers : (n : ℕ) (p : Pauli) → length p.v ≡ n → pauli_of n (numbers_of p) ≡ p
+pauli_numbers n p e = ap₂ (λ (x y : List ℕ). record { phase = p.phase; v = x; w = y }) (take_at p.v p.w n e) (drop_at p.v p.w n e)
+
 -- ---- the tableau in the bytes is that of the columns
 module _ (n k : ℕ) (b : List ℕ) where
-  later : numbers_at b k (1 + 2 * n) ≡ number_at b k ∷ (numbers_at b (k + 1) n ++ numbers_at b (k + 1 + n) n)
-  later =
-      let e : 1 + 2 * n ≡ suc (n + n) = omega arith in
-      let z : k + 0 ≡ k = omega arith in
-      ap (tab (λ i. number_at b (k + i))) e
-      ∙ tab_cons (λ i. number_at b (k + i)) (n + n)
-      ∙ ap₂ (λ (x : ℕ) (l : List ℕ). x ∷ l) (ap (number_at b) z)
-      (tab_append (λ i. number_at b (k + suc i)) n n
-      ∙ ap₂ (λ (x y : List ℕ). x ++ y)
-      (tab_ext (λ i. number_at b (k + suc i)) (λ i. number_at b (k + 1 + i)) n (λ i h. let q : k + suc i ≡ k + 1 + i = omega arith in ap (number_at b) q))
-      (tab_ext (λ i. number_at b (k + suc (n + i))) (λ i. number_at b (k + 1 + n + i)) n (λ i h. let q : k + suc (n + i) ≡ k + 1 + n + i = omega arith in ap (number_at b) q)))
-
   pauli_decoded : pauli_of n (numbers_at b k (1 + 2 * n)) ≡ decode_at n k b
-  pauli_decoded =
-      let v = numbers_at b (k + 1) n in
-      let w = numbers_at b (k + 1 + n) n in
-      let m : length v ≡ n = tab_length (λ i. number_at b (k + 1 + i)) n in
-      ap (pauli_of n) later ∙ ap₂ (λ (x y : List ℕ). record { phase = number_at b k; v = x; w = y }) (take_at v w n m) (drop_at v w n m)
+  pauli_decoded = ap (pauli_of n) (sym (numbers_decoded n k b)) ∙ pauli_numbers n (decode_at n k b) (tab_length (λ i. number_at b (k + 1 + i)) n)
 
 tableau_decoded : (n : ℕ) (b : List ℕ) → map (pauli_of n) (columns_at b (1 + 2 * n) (2 * n)) ≡ decode_tableau n b
 unfolding decode_tableau
@@ -73,7 +62,7 @@ counts_good : (n count : ℕ) (full : Bool) → counts_of n count full ≡ 0 →
 unfolding counts_of
 counts_good n count full e = let z = or_else_none (unless_holds Length full) (size_of (2 * n) count) e in (held Length full z.0, size_good z.1)
 
-counts_hold : (n count : ℕ) (full : Bool) → full ≡ true → count ≡ 2 * n → counts_of n count full ≡ 0
+pub counts_hold : (n count : ℕ) (full : Bool) → full ≡ true → count ≡ 2 * n → counts_of n count full ≡ 0
 unfolding counts_of
 counts_hold n count full e f = rw e (size_passes {want = 2 * n} {have = count} f)
 
@@ -124,7 +113,7 @@ rows_fit d n (w ∷ ws) hd hn e =
     let b = both_held (legal_row d n w) (all_legal_rows d n ws) e in
     (legal_fits d n w (meant w) hd hn (sym (written_meant d n w b.0)) (legal_meant d n w b.0), rows_fit d n ws hd hn b.1)
 
-field_length : (x : ℕ) (rest : List ℕ) → x ≤ 65535 → length (digits x ++ rest) ≤ 5 + length rest
+pub field_length : (x : ℕ) (rest : List ℕ) → x ≤ 65535 → length (digits x ++ rest) ≤ 5 + length rest
 field_length x rest h = omega (arith, length-append (digits x) rest, five_digits x h)
 
 row_length : (r : WrittenRow) → RowFits r → length (row_line r) ≤ 20
