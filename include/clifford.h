@@ -229,7 +229,10 @@ uint16_t clifford_run(uint16_t d, uint16_t n,
  * Inputs d, n, list[8 rows]; outputs function return and out[4n(1 + 2n)]
  *
  * Column j is what the list makes of unit Pauli j. The empty list gives the
- * unit Paulis. The answer is always sound.
+ * unit Paulis. The answer is always sound. For one d and n the answers for two
+ * lists have the same bytes exactly when the lists carry every Pauli alike,
+ * phase included. So a tableau that is stored in place of its list loses the
+ * rows, their number and their ticks, and nothing that a Pauli can show.
  *
  * Refusals: 1 dimension; 2 width; 3 length of list; 4 room: out_len is below
  * 4n(1 + 2n); 6 row.

@@ -6,6 +6,7 @@
 //! the call and both answers; ONLY=i makes the i-th seeded call alone.
 
 mod batch;
+mod comparing;
 mod kinds;
 mod overlap;
 mod touched;
@@ -362,6 +363,14 @@ fn width(random: &mut Random) -> u16 {
 }
 
 /// One in three touches few qudits, or none.
+/// A dimension, a width from `narrow` on, and `few` to `many` rows for them.
+fn drawn_list(narrow: usize, few: usize, many: usize, random: &mut Random) -> (u16, u16, Vec<Row>) {
+    let (d, n) = (dimension(random), random.between(narrow, 16));
+    let count = random.between(few, many);
+    let rows = random.rows(count, d as i64, n);
+    (d, n as u16, rows)
+}
+
 fn any_pauli(d: i64, n: usize, random: &mut Random) -> Pauli {
     if random.one_in(3) {
         random.sparse_pauli(d, n)
@@ -931,6 +940,9 @@ fn main() {
     kinds::rows_by_other_rows(&mut host, seed);
     kinds::laws_of_lists(&mut host, seed);
     kinds::units_between(&mut host);
+    comparing::every_short_list(&mut host);
+    comparing::lists_apart(&mut host, seed);
+    comparing::lists_restored(&mut host, seed);
     rows_used(&mut host, seed);
 
     host.seen = [[0; 10]; NAMES.len()];

@@ -1,7 +1,7 @@
 //! Rows of each kind: which are legal, and what those of kinds C and W do, by
 //! themselves and by rows of other kinds.
 
-use super::{dimension, Case, Host};
+use super::{dimension, drawn_list, Case, Host};
 use library::Name;
 use reference::calls::{self, Answer};
 use reference::random::Random;
@@ -9,7 +9,7 @@ use reference::{Pauli, Row, A, C, F, M, S, W};
 
 const LETTERS: [&str; 8] = ["F", "S", "A", "M", "X", "Z", "C", "W"];
 
-fn row(kind: u16, first: u16, second: u16, power: u16) -> Row {
+pub fn row(kind: u16, first: u16, second: u16, power: u16) -> Row {
     Row {
         kind,
         first,
@@ -131,7 +131,7 @@ fn expect_value(host: &mut Host, case: &Case, value: u16) {
 }
 
 /// What the library makes of a Pauli by a list.
-fn run(host: &mut Host, rows: &[Row], p: &Pauli, d: u16) -> Pauli {
+pub fn run(host: &mut Host, rows: &[Row], p: &Pauli, d: u16) -> Pauli {
     let [case, ..] = calls_with(rows, p, d, p.v.len() as u16);
     let (given, out) = host.compare(&case);
     assert_eq!(given.number, 0, "{}", case.describe());
@@ -139,7 +139,7 @@ fn run(host: &mut Host, rows: &[Row], p: &Pauli, d: u16) -> Pauli {
 }
 
 /// The library's tableau of a list.
-fn tableau(host: &mut Host, rows: &[Row], d: u16, n: u16) -> Vec<u8> {
+pub fn tableau(host: &mut Host, rows: &[Row], d: u16, n: u16) -> Vec<u8> {
     let [_, case, _] = calls_with(rows, &Pauli::zero(n as usize), d, n);
     let (given, out) = host.compare(&case);
     assert_eq!(given.number, 0, "{}", case.describe());
@@ -199,10 +199,8 @@ pub fn laws_of_lists(host: &mut Host, seed: u64) {
     const LISTS: u64 = 2000;
     for index in 0..LISTS {
         let random = &mut Random::new(seed, index);
-        let (d, n) = (dimension(random), random.between(1, 16) as u16);
+        let (d, n, rows) = drawn_list(1, 1, 30, random);
         let (dim, wide) = (d as i64, n as usize);
-        let count = random.between(1, 30);
-        let rows = random.rows(count, dim, wide);
         let (p, q) = (random.pauli(dim, wide), random.pauli(dim, wide));
         let (image, other) = (run(host, &rows, &p, d), run(host, &rows, &q, d));
 

@@ -1,6 +1,6 @@
 //! Ticks of lists whose rows overlap.
 
-use super::{dimension, Case, Host};
+use super::{drawn_list, Case, Host};
 use library::Name;
 use reference::calls;
 use reference::random::Random;
@@ -60,11 +60,8 @@ pub fn laws_of_ticks(host: &mut Host, seed: u64) {
     const LISTS: u64 = 4000;
     for index in 0..LISTS {
         let random = &mut Random::new(seed, index);
-        let d = dimension(random);
-        let n = random.between(1, 16) as u16;
-        let (dim, wide) = (d as i64, n as usize);
-        let count = random.between(1, 60);
-        let rows = random.rows(count, dim, wide);
+        let (d, n, rows) = drawn_list(1, 1, 60, random);
+        let (wide, count) = (n as usize, rows.len());
 
         let mut free = vec![true; wide + 1];
         let mut separate = rows.clone();

@@ -1,5 +1,6 @@
 pub mod Acts
 pub mod Accepted
+pub mod Common
 pub mod Examples
 pub mod Kept
 pub mod LastTicks

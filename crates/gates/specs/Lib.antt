@@ -5,4 +5,5 @@ pub mod Written
 pub mod Ticks
 pub mod Calls
 pub mod Schedules
+pub mod Common
 pub mod Inner

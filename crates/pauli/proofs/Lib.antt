@@ -13,6 +13,7 @@ pub mod Hom
 pub mod Encoding
 pub mod Lent
 pub mod Lists
+pub mod Local
 pub mod Made
 pub mod Marks
 pub mod Onto

@@ -16,6 +16,7 @@ pub mod Phases
 pub mod Prime
 pub mod Progress
 pub mod Reached
+pub mod Restored
 pub mod Reversed
 pub mod SecondColumn
 pub mod Stages

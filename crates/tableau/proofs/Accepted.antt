@@ -17,12 +17,6 @@ use Rattle.tableau.specs.Inner.Parts.{sized_of, image_lengths, compose_lengths, 
 use Rattle.tableau.proofs.Bytes.{decode_formed}
 use Rattle.tableau.proofs.Tests.{sound_good}
 
--- a tableau in bytes that is taken: of the right length, in range and sound
-pub record Taken (d n : ℕ) (b : List ℕ) : Type 0 where
-  pub size : length b ≡ tableau_bytes n
-  pub formed : WellFormed d n (decode_tableau n b)
-  pub sound : Sound d n (decode_tableau n b)
-
 -- ---- past 1, 2 and 3 of a tableau
 pub record Sized (d n have : ℕ) : Type 0 where
   pub given : Given d n

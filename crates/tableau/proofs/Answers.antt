@@ -14,13 +14,13 @@ use Rattle.tableau.specs.Tableau.{units, image, WellFormed, Sound, compose}
 use Rattle.tableau.specs.Inverse.{inverse}
 use Rattle.tableau.specs.Bytes.{decode_tableau, tableau_numbers, encode_tableau}
 use Rattle.tableau.specs.Calls.{tableau_answer, image_answer, compose_answer, inverse_answer}
+use Rattle.tableau.specs.Comparing.{Taken}
 use Rattle.tableau.proofs.Bytes.{decode_encode, numbers_tableau}
 use Rattle.tableau.proofs.Compose.{compose_formed, compose_sound, image_compose}
 use Rattle.tableau.proofs.Inverse.{inverse_formed, inverse_sound, inverse_right, inverse_left}
 use Rattle.tableau.proofs.Run.{run_image, tableau_formed, tableau_sound}
-use Rattle.tableau.proofs.Accepted.{Taken}
 
-decode_answer : {d n : ℕ} {t : List Pauli} → 1 < d → WellFormed d n t → decode_tableau n (encode_tableau t) ≡ t
+pub decode_answer : {d n : ℕ} {t : List Pauli} → 1 < d → WellFormed d n t → decode_tableau n (encode_tableau t) ≡ t
 decode_answer {n = n} {t} one g = ap (decode_tableau n) (sym (append-nil (encode_tableau t))) ∙ decode_encode [] (omega arith) g
 
 answer_taken : {d n : ℕ} {t : List Pauli} → 1 < d → WellFormed d n t → Sound d n t → Taken d n (encode_tableau t)

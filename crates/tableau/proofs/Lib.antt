@@ -6,7 +6,9 @@ pub mod Bytes
 pub mod Changing
 pub mod Chunks
 pub mod Columns
+pub mod Comparing
 pub mod Compose
+pub mod Counterexamples
 pub mod Examples
 pub mod FormulaNine
 pub mod Image

@@ -6,4 +6,5 @@ pub mod Bytes
 pub mod Range
 pub mod Calls
 pub mod Batch
+pub mod Comparing
 pub mod Inner

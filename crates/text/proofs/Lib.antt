@@ -13,5 +13,6 @@ pub mod PartnerRows
 pub mod PartnerLists
 pub mod Translate
 pub mod Tableaus
+pub mod Stored
 pub mod Texts
 pub mod Examples

@@ -2,4 +2,5 @@
 pub mod Format
 pub mod Partner
 pub mod Convert
+pub mod Stored
 pub mod Inner
