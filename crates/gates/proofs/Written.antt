@@ -7,14 +7,14 @@ use Prim.Native.Nat.{ℕ, zero, suc, ◌+◌, ◌*◌, ◌-◌, ◌/◌, ◌%◌
 use native.Mathlib.Nat.{le_of_suc-le-suc, not-suc-le-zero, mod-add-div}
 use native.Mathlib.Omega.{arith}
 use lib.ListN.{length, take, drop, get_or, get_or-append, take-append-drop, length-drop}
-use lib.Seq.{length-take-le}
+use lib.Seq.{sets, length-take-le}
 use Rattle.std.proofs.lemmas.List.{get_or-append-add, length-append}
 use lib.Dec.{leb, eqb}
 use borrow.Author.Tests.{leb-true, eqb-true, eqb-false, not-true, le-leb, eq-eqb, ne_eqb}
 use Rattle.arith.specs.Gcd.{gcd}
 use Rattle.arith.specs.Units.{IsUnit, inverse_of}
-use Rattle.arith.specs.Bytes.{tab, number_at}
-use Rattle.arith.proofs.Bytes.{tab_none, tab_more, tab_cons, tab_ext, tab_list, number_bytes, bytes_length}
+use Rattle.arith.specs.Bytes.{tab, number_at, bytes_of}
+use Rattle.arith.proofs.Bytes.{tab_none, tab_more, tab_cons, tab_ext, tab_list, number_bytes, bytes_length, write_more}
 use Rattle.arith.proofs.Cases.{by_eq}
 use Rattle.arith.proofs.Refusals.{both_held}
 use Rattle.gates.specs.declared.kind.Kind.TheVariants as code
@@ -277,7 +277,7 @@ meant_of_written (W i j) = ap₂ W (omega arith) (omega arith)
 both : {a b : Bool} → a ≡ true → b ≡ true → (a && b) ≡ true
 both e f = rw (e, f)
 
-between_holds : {low high : ℕ} (x : ℕ) → low ≤ x → x ≤ high → between low high x ≡ true
+pub between_holds : {low high : ℕ} (x : ℕ) → low ≤ x → x ≤ high → between low high x ≡ true
 between_holds {low} {high} x a b = both (le-leb low x a) (le-leb x high b)
 
 -- a kind on one qudit, and on two; the last premises hold by computing for each such kind
@@ -442,6 +442,24 @@ list_numbers_length (w ∷ ws) = omega (arith, list_numbers_length ws)
 
 pub rows_bytes : (ws : List WrittenRow) → length (encode_rows ws) ≡ 8 * length ws
 rows_bytes ws = omega (arith, bytes_length (list_numbers ws), list_numbers_length ws)
+
+-- ---- rows written behind rows
+numbers_append : (ws us : List WrittenRow) → list_numbers (ws ++ us) ≡ list_numbers ws ++ list_numbers us
+unfolding list_numbers
+numbers_append [] us = refl
+numbers_append (w ∷ ws) us = ap (λ (l : List ℕ). row_numbers w ++ l) (numbers_append ws us) ∙ sym (append_assoc (row_numbers w) (list_numbers ws) (list_numbers us))
+
+-- rows stand from row `first` of an output on, and one more is written behind them
+pub row_written : (old : List ℕ) (first count : ℕ) (ws : List WrittenRow) (w : WrittenRow) → count ≡ first + length ws
+    → sets (sets old (8 * first) (encode_rows ws)) (8 * count) (encode_rows (w ∷ [])) ≡ sets old (8 * first) (encode_rows (ws ++ (w ∷ [])))
+row_written old first count ws w e =
+    let p : 8 * first ≡ 2 * (4 * first) = omega arith in
+    let q : 8 * count ≡ 2 * (4 * count) = omega arith in
+    ap (λ (k : ℕ). sets (sets old k (encode_rows ws)) (8 * count) (encode_rows (w ∷ []))) p
+    ∙ ap (λ (k : ℕ). sets (sets old (2 * (4 * first)) (encode_rows ws)) k (encode_rows (w ∷ []))) q
+    ∙ write_more old (4 * first) (4 * count) (list_numbers ws) (list_numbers (w ∷ [])) (omega (arith, list_numbers_length ws))
+    ∙ ap (λ (k : ℕ). sets old k (bytes_of (list_numbers ws ++ list_numbers (w ∷ [])))) (sym p)
+    ∙ ap (λ (l : List ℕ). sets old (8 * first) (bytes_of l)) (sym (numbers_append ws (w ∷ [])))
 
 -- rows that are encoded and followed by any bytes are decoded again
 module _ (ws : List WrittenRow) (rest : List ℕ) where

@@ -1,11 +1,12 @@
 // Lists of rows in bytes, 8 bytes a row. The loop that tests them goes over chunks. Loops that need each row to be legal go by the rows' numbers, of which `legal_at` and `LegalList::row` speak:
 // tried, a loop over chunks has to carry that the rows left are legal, and an iterator over legal rows gets no proof.
-ghost use Rattle.std.specs.Prelude.{◌≡◌, Bool, true, ℕ, ◌+◌, ◌*◌, ◌/◌, ◌≤◌, ◌<◌, length, IfOk};
+ghost use Rattle.std.specs.Prelude.{◌≡◌, [], ◌∷◌, Bool, true, ℕ, ◌+◌, ◌*◌, ◌/◌, ◌≤◌, ◌<◌, length, IfOk};
+ghost use Rattle.std.proofs.lemmas.List.Edits.{sets};
 ghost use Rattle.arith.specs.Refusals.{number_of, row_of};
 ghost use Rattle.pauli.specs.Inner.View.{view, WordTrue};
 ghost use Rattle.gates.specs.Row.{apply, run};
 ghost use Rattle.gates.specs.Ticks.{ticks};
-ghost use Rattle.gates.specs.Written.{WrittenRow, meant, row_at, list_rows, rows_of, legal_row, all_rows, all_legal_rows};
+ghost use Rattle.gates.specs.Written.{WrittenRow, meant, row_at, list_rows, rows_of, encode_rows, legal_row, all_rows, all_legal_rows};
 ghost use Rattle.gates.specs.Inner.View.{Code, view_row};
 
 use crate::Row;
@@ -23,6 +24,17 @@ pub fn read_row(b: &[u8], r: usize) -> Row
         first: arith::numbers::get(b, 4 * r + 1),
         second: arith::numbers::get(b, 4 * r + 2),
         power: arith::numbers::get(b, 4 * r + 3),
+    }
+}
+
+// Writes a row as row r of the output.
+pub fn write_row(row: Row, out: &mut [u8], r: usize)
+    requires { 8 * (r + 1) ≤ length out.old }
+    ensures { out.new ≡ sets out.old (8 * r) (encode_rows (view_row row ∷ [])) }
+{
+    let numbers = [row.kind, row.first, row.second, row.power];
+    for (i, number) in numbers.iter().enumerate() {
+        arith::numbers::put(out, 4 * r + i, *number);
     }
 }
 

@@ -1,7 +1,7 @@
 -- Laws of steps that code does: one step after another, a step that is skipped, a row put behind, a loop of steps. Assumes nothing.
 use mathlib.Core.Path.{◌≡◌, refl, sym, ◌∙◌, ap, subst}
 use mathlib.Core.Bool.{Bool, cond}
-use mathlib.Core.List.{List, [], ◌∷◌, ◌++◌, map, append_assoc, reverse-cons}
+use mathlib.Core.List.{List, [], ◌∷◌, ◌++◌, map, reverse-cons}
 use mathlib.Core.Logic.{◌≢◌}
 use Rattle.std.specs.Prelude.{Option, None, Some}
 use Prim.Native.Nat.{ℕ, suc, ◌+◌, ◌*◌, ◌-◌, ◌%◌, ◌≤◌, ◌<◌}
@@ -11,39 +11,21 @@ use lib.ListN.{length, length-map, length-reverse}
 use lib.Seq.{sets}
 use lib.Dec.{eqb}
 use Rattle.arith.specs.Bytes.{bytes_of}
-use Rattle.arith.proofs.Bytes.{write_more}
 use Rattle.arith.specs.Units.{IsUnit}
 use Rattle.arith.proofs.Cases.{eqb_case, by_eq}
 use Rattle.arith.proofs.Units.{unit_pos}
 use Rattle.pauli.specs.Pauli.{Pauli}
 use Rattle.gates.specs.Row.{Row, F, S, A, M, X, Z, Legal, apply, undo}
-use Rattle.gates.specs.Written.{WrittenRow, on_one, on_two, written, meant, row_numbers, list_numbers, encode_rows}
+use Rattle.gates.specs.Written.{WrittenRow, on_one, on_two, written, meant, list_numbers, encode_rows}
 use Rattle.gates.specs.Inner.View.{view_row}
 use Rattle.gates.specs.declared.Row.{Row as Code}
-use Rattle.gates.proofs.Written.{legal_written, meant_of_written, list_numbers_length}
+use Rattle.gates.proofs.Written.{legal_written, meant_of_written, row_written}
 use Rattle.tableau.specs.Tableau.{up_from}
 use Rattle.synthesis.specs.Inner.Reduce.{State, near_power, put, put_s, put_a, put_m, put_x, put_z, each, start}
 use Rattle.synthesis.specs.Inner.Progress.{undo_rows, Holds, Does, put_made, Says}
 use Rattle.synthesis.proofs.Steps.{near_low, near_high, each_more}
 
--- ---- rows in bytes
-numbers_append : (ws us : List WrittenRow) → list_numbers (ws ++ us) ≡ list_numbers ws ++ list_numbers us
-unfolding list_numbers
-numbers_append [] us = refl
-numbers_append (w ∷ ws) us = ap (λ (l : List ℕ). row_numbers w ++ l) (numbers_append ws us) ∙ sym (append_assoc (row_numbers w) (list_numbers ws) (list_numbers us))
-
--- a row written behind rows
-write_row : (old : List ℕ) (first count : ℕ) (ws : List WrittenRow) (w : WrittenRow) → count ≡ first + length ws
-    → sets (sets old (8 * first) (encode_rows ws)) (8 * count) (encode_rows (w ∷ [])) ≡ sets old (8 * first) (encode_rows (ws ++ (w ∷ [])))
-write_row old first count ws w e =
-    let p : 8 * first ≡ 2 * (4 * first) = omega arith in
-    let q : 8 * count ≡ 2 * (4 * count) = omega arith in
-    ap (λ (k : ℕ). sets (sets old k (encode_rows ws)) (8 * count) (encode_rows (w ∷ []))) p
-    ∙ ap (λ (k : ℕ). sets (sets old (2 * (4 * first)) (encode_rows ws)) k (encode_rows (w ∷ []))) q
-    ∙ write_more old (4 * first) (4 * count) (list_numbers ws) (list_numbers (w ∷ [])) (omega (arith, list_numbers_length ws))
-    ∙ ap (λ (k : ℕ). sets old k (bytes_of (list_numbers ws ++ list_numbers (w ∷ [])))) (sym p)
-    ∙ ap (λ (l : List ℕ). sets old (8 * first) (bytes_of l)) (sym (numbers_append ws (w ∷ [])))
-
+-- ---- rows put behind
 -- the undo rows of one row more
 undo_more : (d : ℕ) (r : Row) (rows : List Row) → undo_rows d (r ∷ rows) ≡ undo_rows d rows ++ (written (undo d r) ∷ [])
 unfolding undo_rows
@@ -71,7 +53,7 @@ module _ {d : ℕ} {t : List Pauli} {out : List ℕ} {count : ℕ} where
       tableau = e ∙ ap (map (apply d x)) h.tableau;
       counted = omega (arith, h.counted);
       listed = f ∙ ap (λ (l : List ℕ). sets l (8 * count) (encode_rows (w ∷ []))) h.listed
-          ∙ write_row old first count (undo_rows d s.rows) w (omega (arith, h.counted, undo_length d s.rows))
+          ∙ row_written old first count (undo_rows d s.rows) w (omega (arith, h.counted, undo_length d s.rows))
           ∙ ap (λ (l : List WrittenRow). sets old (8 * first) (encode_rows l)) (ap (λ (z : WrittenRow). undo_rows d s.rows ++ (z ∷ [])) (sym u) ∙ sym (undo_more d x s.rows));
     };
     within = omega arith;

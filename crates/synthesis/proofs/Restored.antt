@@ -4,7 +4,7 @@ use mathlib.Core.List.{List}
 use Prim.Native.Nat.{◌<◌}
 use lib.ListN.{length}
 use Rattle.pauli.specs.Pauli.{Pauli}
-use Rattle.gates.specs.Row.{AllLegal, run}
+use Rattle.gates.specs.Row.{AllLegal}
 use Rattle.gates.specs.Written.{list_rows, rows_of}
 use Rattle.gates.proofs.Written.{all_legal_meant}
 use Rattle.tableau.specs.Tableau.{tableau_of, image}

@@ -1,22 +1,9 @@
-// The list handed back: rows written to the output, and those written so far reversed in place.
+// The list handed back: the rows written so far, reversed in place.
 ghost use Rattle.std.specs.Prelude.{◌≡◌, List, [], ◌∷◌, ◌++◌, reverse, ℕ, ◌+◌, ◌*◌, ◌≤◌, length};
 ghost use Rattle.std.proofs.lemmas.List.Edits.{sets};
-ghost use Rattle.gates.specs.Inner.View.{view_row};
 ghost use Rattle.gates.specs.Written.{WrittenRow, row_at, encode_rows};
 
-use gates::Row;
-use gates::lists::read_row;
-
-// Writes a row as row r of the output.
-pub fn write_row(row: Row, out: &mut [u8], r: usize)
-    requires { 8 * (r + 1) ≤ length out.old }
-    ensures { out.new ≡ sets out.old (8 * r) (encode_rows (view_row row ∷ [])) }
-{
-    let numbers = [row.kind, row.first, row.second, row.power];
-    for (i, number) in numbers.iter().enumerate() {
-        arith::numbers::put(out, 4 * r + i, *number);
-    }
-}
+use gates::lists::{read_row, write_row};
 
 // Swaps rows a and b.
 fn swap_rows(out: &mut [u8], a: usize, b: usize)

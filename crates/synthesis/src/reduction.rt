@@ -11,8 +11,8 @@ ghost use Rattle.synthesis.specs.Inner.Progress.{put_made};
 ghost use Rattle.synthesis.specs.Inner.Did.{seen, Makes, Pivot, Room, Did};
 
 use crate::columns::Columns;
-use crate::list::write_row;
 use gates::Row;
+use gates::lists::write_row;
 
 // The columns so far, and the undo rows of the rows so far: `count` of them from the front of the output on.
 // The output and the count are two fields: a slice of what is left of the output would lose its front, which is reversed at the end.

@@ -1,4 +1,4 @@
--- `synthesis::list::write_row` meets its contract: the numbers are written one after the other (`write_next`).
+-- `gates::lists::write_row` meets its contract: the numbers are written one after the other (`write_next`).
 use mathlib.Core.Path.{◌≡◌, refl, ◌∙◌, ap}
 use mathlib.Core.List.{[], ◌∷◌}
 use Prim.Native.Nat.{ℕ, ◌*◌}
@@ -9,7 +9,7 @@ use Rattle.arith.specs.Bytes.{tab, bytes_of}
 use Rattle.arith.proofs.Bytes.{write_none, write_next}
 use Rattle.gates.specs.Written.{WrittenRow, row_numbers, list_numbers, encode_rows}
 use Rattle.gates.specs.Inner.View.{view_row}
-use Rattle.synthesis.proofs.list.write_row.Goals as goal
+use Rattle.gates.proofs.lists.write_row.Goals as goal
 
 -- the four numbers are the row's
 four : (w : WrittenRow) → bytes_of (tab (λ j. get_or (row_numbers w) j 0) 4) ≡ encode_rows (w ∷ [])
