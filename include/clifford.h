@@ -26,8 +26,8 @@
  *
  * A row is legal when its first qudit is 1 to n, its second is 0, or for the
  * kinds A, C and W another qudit from 1 to n, and its power k is as follows.
- * Phases are modulo 2d, entries modulo d, and k' is the inverse of k. Numbers
- * not named don't change.
+ * Phases are modulo 2d, entries modulo d. k is a unit when gcd(k, d) = 1, and
+ * k' is its inverse. Numbers not named don't change.
  *
  *   kind   legal power         effect on first qudit i, second qudit j
  *   1 F    1 to 3              k times: phase - 2 vi wi, then vi, wi become
@@ -340,9 +340,10 @@ uint16_t clifford_inverse(uint16_t d, uint16_t n,
  * Inputs d, n, list[8 rows]; output function return
  *
  * Rows on separate qudits run in the same tick. A row uses its first qudit,
- * and A its second too; it starts in the first tick after the last one used by
- * any of these. The value is the highest tick used, 0 for the empty list: F on
- * qudit 1 and F on qudit 2 take 1 tick, F twice on qudit 1 takes 2.
+ * and one of kind A, C or W its second too; it starts in the first tick after
+ * the last one used by any of these. The value is the highest tick used, 0 for
+ * the empty list: F on qudit 1 and F on qudit 2 take 1 tick, F twice on qudit 1
+ * takes 2.
  *
  * It is at most the number of rows, and at least the number of rows that any
  * one qudit takes part in. No schedule in which rows that share a qudit run in

@@ -1,11 +1,10 @@
 -- The first number, counted from 0, that passes a test.
 use mathlib.Core.Path.{◌≡◌, sym, ◌∙◌, subst}
 use mathlib.Core.Bool.{Bool, true, false, not}
-use mathlib.Core.Logic.{◌⊎◌, inl, inr}
-use Prim.Native.Nat.{ℕ, suc, ◌+◌, ◌≤◌, ◌<◌}
-use native.Mathlib.Nat.{eq-or-lt_of_le, suc_inj}
+use Prim.Native.Nat.{ℕ, ◌+◌, ◌≤◌, ◌<◌}
 use native.Mathlib.Omega.{arith}
 use lib.Dec.{T, T_not}
+use Rattle.arith.proofs.Cases.{by_eq}
 
 pub record First (test : ℕ → Bool) (m : ℕ) : Type 0 where
   pub passes : T (test m)
@@ -22,16 +21,8 @@ pub first_unique : {test : ℕ → Bool} {m n : ℕ} → First test m → First 
 first_unique {test} {m} {n} h k = omega (arith, first_le h n k.passes, first_le k m h.passes)
 
 -- one more that fails, as a loop meets it
-pub none_more : (test : ℕ → Bool) (k : ℕ) → ((j : ℕ) → j < k → T (not (test j))) → T (not (test k)) → (j : ℕ) → j < suc k → T (not (test j))
-none_more test k h t j l = go (eq-or-lt_of_le l)
-  where
-    go : (suc j ≡ suc k) ⊎ (suc j < suc k) → T (not (test j))
-    go (inl e) = subst (λ (x : ℕ). T (not (test x))) (sym (suc_inj e)) t
-    go (inr q) = h j (omega arith)
-
--- the same, as a loop's counter has it
 pub none_next : (test : ℕ → Bool) (k : ℕ) → ((j : ℕ) → j < k → T (not (test j))) → T (not (test k)) → (j : ℕ) → j < k + 1 → T (not (test j))
-none_next test k h t j l = none_more test k h t j (omega arith)
+none_next test k h t j l = by_eq j k (λ q. rw q t) (λ ne. h j (omega arith))
 
 -- a test that a program computed
 pub told_true : {b r : Bool} → r ≡ b → r ≡ true → T b

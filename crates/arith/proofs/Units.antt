@@ -7,7 +7,7 @@ use native.Mathlib.Nat.{mul_comm, mul-one, mod-eq_of_lt, mod_self}
 use native.Mathlib.Omega.{arith}
 use lib.Dec.{T, T_not, eqb, eqb→eq, eqb_refl}
 use borrow.Author.Tests.{eq-eqb}
-use Rattle.arith.proofs.Cases.{by_less}
+use Rattle.arith.proofs.Cases.{by_eq, by_less}
 use Rattle.arith.proofs.Cong.{Cong, cong_eq, cong_trans, cong_of_eq, cong_refl, cong_sym, cong_add, cong_mul, cong_mod, cong_intro}
 use Rattle.arith.proofs.Divides.{dvd_refl, dvd_zero, dvd_one, dvd_mul_l, dvd_resp}
 use Rattle.arith.proofs.Remainders.{mod_of}
@@ -15,7 +15,7 @@ use Rattle.arith.specs.Gcd.{gcd}
 use Rattle.arith.proofs.Gcd.{gcd_left, gcd_right, gcd_unique, gcd_cong, both_cong, inverse, gcd_zero_left, inverse_unique}
 use Rattle.arith.proofs.Candidates.{candidate_zero, candidate_once, first_nearest, nearest_unique}
 use Rattle.arith.proofs.Multiplier.{multiplier}
-use Rattle.arith.proofs.First.{First, none_more, first_unique, told_true}
+use Rattle.arith.proofs.First.{First, first_unique, told_true}
 use Rattle.arith.specs.Units.{fits, first_from, first_below, inverse_of, candidate, least_multiplier, Nearest}
 
 -- m is the first number that passes, and is below the bound
@@ -23,24 +23,33 @@ pub record FirstUnder (test : ℕ → Bool) (bound m : ℕ) : Type 0 where
   pub first : First test m
   pub below : m < bound
 
--- the search from k on, where no number before k passes and some j before k + n does
-first_from_law : (test : ℕ → Bool) (n k j : ℕ) → j < k + n → T (test j) → ((i : ℕ) → i < k → T (not (test i))) → FirstUnder test (k + n) (first_from test n k)
-first_from_law test zero k j l t h = absurd (T_not (test j) (h j (omega arith)) t)
-first_from_law test (suc n) k j l t h = go (test k) refl (λ f. first_from_law test n (suc k) j (omega arith) t f)
+-- m is the first number from k on that passes, and is below the bound
+pub record FirstFrom (test : ℕ → Bool) (k bound m : ℕ) : Type 0 where
+  pub passes : T (test m)
+  pub from : k ≤ m
+  pub below : m < bound
+  pub none_before : (i : ℕ) → k ≤ i → i < m → T (not (test i))
+
+-- the search from k on, where some j that it looks at passes
+pub first_from_law : (test : ℕ → Bool) (n k j : ℕ) → k ≤ j → j < k + n → T (test j) → FirstFrom test k (k + n) (first_from test n k)
+first_from_law test zero k j g l t = absurd (omega arith)
+first_from_law test (suc n) k j g l t = go (test k) refl (λ f. first_from_law test n (suc k) j f (omega arith) t)
   where
-    go : (b : Bool) → test k ≡ b
-        → (((i : ℕ) → i < suc k → T (not (test i))) → FirstUnder test (suc k + n) (first_from test n (suc k)))
-        → FirstUnder test (k + suc n) (cond b k (first_from test n (suc k)))
-    go true e rec = record { first = record { passes = subst T (sym e) tt; none_before = h }; below = omega arith }
-    go false e rec =
-        let r = rec (none_more test k h (subst (λ (b : Bool). T (not b)) (sym e) tt)) in
-        record { first = r.first; below = omega (arith, r.below) }
+    go : (b : Bool) → test k ≡ b → (suc k ≤ j → FirstFrom test (suc k) (suc k + n) (first_from test n (suc k))) → FirstFrom test k (k + suc n) (cond b k (first_from test n (suc k)))
+    go true e rec = record { passes = subst T (sym e) tt; from = omega arith; below = omega arith; none_before = λ i a b. absurd (omega arith) }
+    go false e rec = record { passes = r.passes; from = omega (arith, r.from); below = omega (arith, r.below); none_before = λ i a b. by_eq i k (λ q. rw q fails) (λ ne. r.none_before i (omega arith) b) }
+      where
+        fails : T (not (test k))
+        fails = subst (λ (b : Bool). T (not b)) (sym e) tt
+
+        r : FirstFrom test (suc k) (suc k + n) (first_from test n (suc k))
+        r = rec (by_eq j k (λ q. absurd (T_not (test k) fails (rw q at t))) (λ ne. omega arith))
 
 pub first_below_law : (test : ℕ → Bool) (bound j : ℕ) → j < bound → T (test j) → FirstUnder test bound (first_below test bound)
 unfolding first_below
 first_below_law test bound j l t =
-    let r = first_from_law test bound 0 j (omega arith) t (λ i k. absurd (omega arith)) in
-    record { first = r.first; below = omega (arith, r.below) }
+    let r = first_from_law test bound 0 j (omega arith) (omega arith) t in
+    record { first = record { passes = r.passes; none_before = λ i h. r.none_before i (omega arith) h }; below = omega (arith, r.below) }
 
 -- where 0 passes, it is the first
 pub first_zero : (test : ℕ → Bool) (bound : ℕ) → 0 < bound → T (test 0) → first_below test bound ≡ 0

@@ -11,6 +11,7 @@ use lib.Seq.{sets, length-take-le}
 use Rattle.std.proofs.lemmas.List.{get_or-append-add, length-append}
 use lib.Dec.{leb, eqb}
 use borrow.Author.Tests.{leb-true, eqb-true, eqb-false, not-true, le-leb, eq-eqb, ne_eqb}
+use Rattle.std.proofs.lemmas.Bool.{and_from}
 use Rattle.arith.specs.Gcd.{gcd}
 use Rattle.arith.specs.Units.{IsUnit, inverse_of}
 use Rattle.arith.specs.Bytes.{tab, number_at, bytes_of}
@@ -274,28 +275,25 @@ meant_of_written (C i j k) = ap₂ (λ (x y : ℕ). C x y k) (omega arith) (omeg
 meant_of_written (W i j) = ap₂ W (omega arith) (omega arith)
 
 -- ---- and is legal where the row is
-both : {a b : Bool} → a ≡ true → b ≡ true → (a && b) ≡ true
-both e f = rw (e, f)
-
 pub between_holds : {low high : ℕ} (x : ℕ) → low ≤ x → x ≤ high → between low high x ≡ true
-between_holds {low} {high} x a b = both (le-leb low x a) (le-leb x high b)
+between_holds {low} {high} x a b = and_from _ _ (le-leb low x a) (le-leb x high b)
 
 -- a kind on one qudit, and on two; the last premises hold by computing for each such kind
 module _ (d : ℕ) {n : ℕ} (kind : ℕ) {i k : ℕ} (o : OneQudit n i 1 k (highest d kind)) (unit : cond (eqb kind 4) (eqb (gcd k d) 1) true ≡ true) where
   legal_power_lem : legal_power d kind k ≡ true
-  legal_power_lem = both (between_holds k o.power_low o.power_high) unit
+  legal_power_lem = and_from _ _ (between_holds k o.power_low o.power_high) unit
 
   legal_place : between 1 n (i + 1) ≡ true
   legal_place = between_holds (i + 1) (omega arith) (omega arith)
 
   legal_one : takes_two kind ≡ false → legal_row d n (on_one kind i k) ≡ true
   unfolding legal_row
-  legal_one e = both legal_power_lem (both legal_place (rw e))
+  legal_one e = and_from _ _ legal_power_lem (and_from _ _ legal_place (rw e))
 
   legal_two : {j : ℕ} → takes_two kind ≡ true → TwoQudits n i j → legal_row d n (on_two kind i j k) ≡ true
   unfolding legal_row
   legal_two {j} e t =
-      both legal_power_lem (both legal_place (rw e (both (between_holds (j + 1) (omega arith) (omega arith)) (ap not (ne_eqb (j + 1) (i + 1) (λ q. t.apart (omega arith)))))))
+      and_from _ _ legal_power_lem (and_from _ _ legal_place (rw e (and_from _ _ (between_holds (j + 1) (omega arith) (omega arith)) (ap not (ne_eqb (j + 1) (i + 1) (λ q. t.apart (omega arith)))))))
 
 pub legal_written : (d n : ℕ) (r : Row) → Legal d n r → legal_row d n (written r) ≡ true
 legal_written d n (F i k) l = legal_one d 1 l refl refl
@@ -324,7 +322,7 @@ module _ (d n : ℕ) where
   pub all_legal_written : {rs : List Row} → AllLegal d n rs → all_legal_rows d n (map written rs) ≡ true
   unfolding all_rows
   all_legal_written none = refl
-  all_legal_written (more {r = r} l ls) = both (legal_written d n r l) (all_legal_written ls)
+  all_legal_written (more {r = r} l ls) = and_from _ _ (legal_written d n r l) (all_legal_written ls)
 
 -- ---- a test of every row of a list
 module _ (test : WrittenRow → Bool) where
@@ -341,7 +339,7 @@ module _ (test : WrittenRow → Bool) where
 
     pub all_more : (i : ℕ) → all_rows test (tab f i) ≡ true → test (f i) ≡ true → all_rows test (tab f (i + 1)) ≡ true
     unfolding all_rows
-    all_more i e l = ap (all_rows test) (tab_more f i) ∙ all_append (tab f i) (f i ∷ []) ∙ both e (both l refl)
+    all_more i e l = ap (all_rows test) (tab_more f i) ∙ all_append (tab f i) (f i ∷ []) ∙ and_from _ _ e (and_from _ _ l refl)
 
   pub all_at : (f : ℕ → WrittenRow) (m i : ℕ) → i < m → all_rows test (tab f m) ≡ true → test (f i) ≡ true
   unfolding all_rows tab
