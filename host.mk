@@ -5,7 +5,8 @@
 #
 #   make reference   build the reference and run its own tests
 #   make compare     the library against the reference; CALLS= and SEED=
-#   make ctest       the C hosts: the example, and the guard bytes under valgrind
+#   make ctest       the C hosts: the example, the guard bytes under valgrind, and
+#                    a load, also handed to the text program; TEXT_PROGRAM=
 #   make stack       how much stack each call uses, against the header's figure
 #   make pyexample   the example over ctypes, against what the C example prints
 #   make texttest    the text program; TEXT_PROGRAM=, RUNS= and SEED=
@@ -47,9 +48,13 @@ build/example: examples/host.c include/clifford.h build/libclifford.a
 build/guard: tests/host/guard.c include/clifford.h build/libclifford.a
 	$(CC) $(HOST_CFLAGS) $< build/libclifford.a $(CLIFFORD_LIBS) -o $@
 
-ctest: build/example build/guard
+build/load: examples/load.c include/clifford.h build/libclifford.a
+	$(CC) $(HOST_CFLAGS) $< build/libclifford.a $(CLIFFORD_LIBS) -o $@
+
+ctest: build/example build/guard build/load textref
 	build/example
 	$(if $(VALGRIND),$(VALGRIND) --quiet --error-exitcode=1 --leak-check=full )build/guard
+	tests/load/run build/load $(TEXT_PROGRAM)
 
 build/stack: tests/host/stack.c include/clifford.h build/libclifford.a
 	$(CC) $(HOST_CFLAGS) $< build/libclifford.a $(CLIFFORD_LIBS) -o $@

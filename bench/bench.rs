@@ -40,7 +40,7 @@ struct Input {
 
 impl Input {
     fn room(&self) -> usize {
-        self.name.room(self.numbers.n as usize, self.second.len())
+        self.name.room(self.numbers, self.second.len())
     }
 }
 
@@ -59,13 +59,17 @@ fn input_with(rows: Rows, name: Name, d: u16, n: u16, random: &mut Random) -> In
     });
     let first = lent.next().unwrap_or_default();
     let second = lent.next().unwrap_or_default();
-    let (a, b) = match name {
-        Name::LeastMultiplier => (random.entry(dim) as u16, random.entry(dim) as u16),
-        _ => (random.next() as u16, 0),
-    };
+    let mut numbers = Numbers::new(d, n);
+    match name {
+        Name::LeastMultiplier => {
+            (numbers.a, numbers.b) = (random.entry(dim) as u16, random.entry(dim) as u16)
+        }
+        Name::Load => (numbers.a, numbers.seed) = (calls::MOST_ROWS as u16, random.next()),
+        _ => numbers.a = random.next() as u16,
+    }
     Input {
         name,
-        numbers: Numbers { d, n, a, b },
+        numbers,
         first,
         second,
     }
@@ -89,7 +93,7 @@ fn disjoint_paulis(name: Name, d: u16, n: u16, random: &mut Random) -> Input {
     let mut on = |word| calls::bytes_of_pauli(&random.pauli_on(word, dim, wide));
     Input {
         name,
-        numbers: Numbers { d, n, a: 0, b: 0 },
+        numbers: Numbers::new(d, n),
         first: on(word),
         second: on(!word),
     }
@@ -287,10 +291,11 @@ fn print_calls(milliseconds: u32) {
     println!(
         "Lists have {LIST_ROWS} rows, of the six kinds F, S, A, M, X and Z, or of all eight, with \
          C and W; for n = 1 there is no A, C or W. Batches have {} Paulis, tableaus few zeros. \
-         Disjoint Paulis touch no qudit in common. Outputs are not cleared between calls. Both \
-         sides are built for release; best of {ROUNDS} rounds of at least {milliseconds} ms of \
-         processor time.\n",
-        calls::MOST_PAULIS
+         Disjoint Paulis touch no qudit in common. A load makes {} rows. Outputs are not cleared \
+         between calls. Both sides are built for release; best of {ROUNDS} rounds of at least \
+         {milliseconds} ms of processor time.\n",
+        calls::MOST_PAULIS,
+        calls::MOST_ROWS
     );
     println!(
         "| call | n | d | library, calls/s | reference, calls/s | ratio | stack, bytes \
@@ -430,7 +435,11 @@ fn print_longest_searches(time: f64) {
             .map(|i| pairs[i * pairs.len() / MOST_SEARCHES])
             .map(|(a, b)| Input {
                 name: Name::LeastMultiplier,
-                numbers: Numbers { d, n: 0, a, b },
+                numbers: Numbers {
+                    a,
+                    b,
+                    ..Numbers::new(d, 0)
+                },
                 first: vec![],
                 second: vec![],
             })
@@ -469,7 +478,7 @@ fn tableaus_of(lists: &[Vec<Row>], d: u16, n: u16) -> Vec<Input> {
         .iter()
         .map(|rows| Input {
             name: Name::Synthesis,
-            numbers: Numbers { d, n, a: 0, b: 0 },
+            numbers: Numbers::new(d, n),
             first: calls::bytes_of_tableau(&reference::tableau_of_list(rows, dim, wide)),
             second: vec![],
         })

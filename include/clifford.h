@@ -86,7 +86,8 @@ enum {
 
     /* An input isn't as long as its layout says, or a list isn't whole rows
        or has more than 4,096, or a batch isn't whole Paulis or has more than
-       512. Lend the exact length; run a longer list or batch in parts. */
+       512, or the count of a load is above 4,096. Lend the exact length; run a
+       longer list or batch in parts; ask for fewer rows. */
     CLIFFORD_LENGTH = 3,
 
     /* An output is too short. Lend the room that the call names. */
@@ -115,11 +116,12 @@ enum {
 };
 
 /* Bytes of each layout, and of the room that synthesis asks for; and the most
-   Paulis of a batch. */
+   rows of a list and Paulis of a batch. */
 #define CLIFFORD_PAULI_BYTES(n) (2 * (1 + 2 * (size_t)(n)))
 #define CLIFFORD_TABLEAU_BYTES(n) (2 * (size_t)(n) * CLIFFORD_PAULI_BYTES(n))
 #define CLIFFORD_ROW_BYTES ((size_t)8)
 #define CLIFFORD_SYNTHESIS_BYTES(n) (40 * (size_t)(n) * (size_t)(n) + 48 * (size_t)(n))
+#define CLIFFORD_LIST_MOST ((size_t)4096)
 #define CLIFFORD_BATCH_MOST ((size_t)512)
 
 /* A number, and a value that is 0 on refusal. */
@@ -353,6 +355,42 @@ uint16_t clifford_inverse(uint16_t d, uint16_t n,
  */
 struct clifford_answer clifford_ticks(uint16_t d, uint16_t n,
                                       const uint8_t *list, size_t list_len);
+
+/*
+ * Load: a list made of a seed, the same on every bench.
+ * Inputs d, n, seed (any of 64 bits), count (rows, 0 to 4,096); outputs
+ * function return and out[8 count]
+ *
+ * All rows are legal, of the kinds F, S, A, M, X and Z, and the list is exactly
+ * the one that this rule gives. s is the seed at first. Each draw adds
+ * hexadecimal 9E3779B97F4A7C15 to s, modulo 2^64; then t is s xor (s >> 30),
+ * then t xor (t << 27), its low 64 bits, then t xor (t >> 31), and that is the
+ * draw. Each row takes four draws, a, b, c and e in this order, whether it uses
+ * them or not:
+ *
+ *   kind    1 + a mod 6; for n = 1 kind 3, A, becomes 1, F
+ *   first   1 + b mod n
+ *   second  for A 1 + c mod (n - 1), and one more if that isn't below first; 0
+ *           for the other kinds, and so for n = 1
+ *   power   1 + e mod m, where m is the highest legal power of the kind: 3 for
+ *           F, 2d - 1 for S, d - 1 for the others; for M one more until it is
+ *           a unit
+ *
+ * First rows, to check a port against:
+ *
+ *   d = 6, n = 3, seed 0              4,1,0,5  4,1,0,1  3,1,2,2  2,3,0,5
+ *   d = 6, n = 1, seed 0              4,1,0,5  4,1,0,1  1,1,0,3  2,1,0,5
+ *   d = 1,024, n = 16, seed 2^64 - 1  1,9,0,2  1,12,0,3  2,5,0,939
+ *                                     3,2,14,710
+ *
+ * In the first load M's power in row 1 is raised from 2 to 5, and A's second
+ * qudit in row 3 from 1 to 2.
+ *
+ * Refusals: 1 dimension; 2 width; 3 length: count is above 4,096; 4 room:
+ * out_len is below 8 count.
+ */
+uint16_t clifford_load(uint16_t d, uint16_t n, uint64_t seed, uint16_t count,
+                       uint8_t *out, size_t out_len);
 
 #ifdef __cplusplus
 }

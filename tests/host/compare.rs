@@ -8,6 +8,7 @@
 mod batch;
 mod comparing;
 mod kinds;
+mod loads;
 mod overlap;
 mod touched;
 
@@ -36,8 +37,8 @@ struct Case {
 
 impl Case {
     fn new(name: Name, d: u16, n: u16, first: Vec<u8>, second: Vec<u8>) -> Case {
-        let room = name.room(n as usize, second.len());
-        let numbers = Numbers { d, n, a: 0, b: 0 };
+        let numbers = Numbers::new(d, n);
+        let room = name.room(numbers, second.len());
         Case {
             origin: String::new(),
             name,
@@ -57,18 +58,27 @@ impl Case {
         Case::new(name, d, n, first, second)
     }
 
-    /// The same with a drawn seed.
+    /// A load of so many rows, with the room that they need.
+    fn of_load(d: u16, n: u16, seed: u64, count: u16) -> Case {
+        let mut case = Case::new(Name::Load, d, n, vec![], vec![]);
+        (case.numbers.seed, case.numbers.a) = (seed, count);
+        case.room = Name::Load.room(case.numbers, 0);
+        case
+    }
+
+    /// The same with a drawn seed for what the output holds before.
     fn filled(mut self, random: &mut Random) -> Case {
         self.fill = random.next();
         self
     }
 
     fn describe(&self) -> String {
-        let Numbers { d, n, a, b } = self.numbers;
+        let Numbers { d, n, a, b, seed } = self.numbers;
         let mut text = format!("{}\ncall {} d={d} n={n}", self.origin, self.name.text());
         match self.name {
             Name::LeastMultiplier => write!(text, " a={a} b={b}").unwrap(),
             Name::Power => write!(text, " k={a}").unwrap(),
+            Name::Load => write!(text, " seed={seed:#x} count={a}").unwrap(),
             _ => {}
         }
         for (input, layout) in [&self.first, &self.second]
@@ -420,6 +430,33 @@ fn valid_input(layout: Layout, d: i64, n: usize, random: &mut Random) -> Vec<u8>
     }
 }
 
+/// How many rows a load is to have.
+fn load_count(random: &mut Random) -> u16 {
+    let count = match random.below(20) {
+        0 => calls::MOST_ROWS,
+        1 => 0,
+        2 => 1,
+        3 => random.between(2, calls::MOST_ROWS),
+        _ => random.between(2, 40),
+    };
+    count as u16
+}
+
+/// More rows than a load may have. 8,192 rows and a few are there for code that
+/// keeps the length of the list in 16 bits.
+fn long_count(random: &mut Random) -> u16 {
+    let few = random.between(0, 40) as u16;
+    let any = random.between(calls::MOST_ROWS + 1, 65_535) as u16;
+    random.pick(&[4097, 4097, 4098, 8192 + few, any, u16::MAX])
+}
+
+/// One seed in two has no bit or one, or all bits or all but one.
+fn load_seed(random: &mut Random) -> u64 {
+    let bit = 1 << random.below(64);
+    let any = random.next();
+    random.pick(&[0, u64::MAX, bit, !bit, any, any, any, any])
+}
+
 fn length_of(layout: Layout, n: usize) -> usize {
     match layout {
         Layout::Pauli | Layout::Batch => calls::pauli_len(n),
@@ -587,18 +624,16 @@ fn seeded_case(seed: u64, index: u64) -> Case {
     if inputs.len() == 2 && inputs[0] == inputs[1] && random.one_in(10) {
         lent[1] = lent[0].clone();
     }
-    let mut x = Numbers {
-        d,
-        n,
-        a: random.next() as u16,
-        b: 0,
-    };
+    let mut x = Numbers::new(d, n);
+    x.a = random.next() as u16;
     if name == Name::LeastMultiplier {
         (x.a, x.b) = (random.entry(d as i64) as u16, random.entry(d as i64) as u16);
+    } else if name == Name::Load {
+        (x.a, x.seed) = (load_count(random), load_seed(random));
     } else if random.one_in(2) {
         x.a = random.pick(&[0, 1, 2, d - 1, d, 2 * d, u16::MAX]);
     }
-    let needed = name.room(wide, length_of_last(&lent));
+    let needed = name.room(x, length_of_last(&lent));
     let mut room = needed + random.pick(&[0, 0, 0, 1, 8, 64, 100]);
 
     // Half of all calls have no fault, the others one to three, so that the
@@ -641,7 +676,12 @@ fn seeded_case(seed: u64, index: u64) -> Case {
         let any = random.below(needed);
         room = random.pick(&[needed - 1, needed - 1, needed - 2, any, 0]);
     }
-    if faulty[calls::LENGTH as usize] {
+    if faulty[calls::LENGTH as usize] && name == Name::Load {
+        x.a = long_count(random);
+        if random.one_in(2) {
+            room = name.room(x, 0);
+        }
+    } else if faulty[calls::LENGTH as usize] {
         let place = random.below(lent.len());
         damage_length(&mut lent[place], inputs[place], wide, random);
     }
@@ -652,7 +692,7 @@ fn seeded_case(seed: u64, index: u64) -> Case {
             for (input, &layout) in lent.iter_mut().zip(inputs) {
                 input.resize(length_of(layout, x.n as usize), 0);
             }
-            room = name.room(x.n as usize, length_of_last(&lent));
+            room = name.room(x, length_of_last(&lent));
         }
     }
     if faulty[calls::DIMENSION as usize] {
@@ -940,6 +980,12 @@ fn main() {
     kinds::rows_by_other_rows(&mut host, seed);
     kinds::laws_of_lists(&mut host, seed);
     kinds::units_between(&mut host);
+    loads::known_loads(&mut host);
+    loads::every_size(&mut host, seed);
+    loads::every_bit_of_the_seed(&mut host, seed);
+    loads::laws_of_loads(&mut host, seed);
+    loads::longest_loads(&mut host, seed);
+    loads::fault_by_fault(&mut host, seed);
     comparing::every_short_list(&mut host);
     comparing::lists_apart(&mut host, seed);
     comparing::lists_restored(&mut host, seed);

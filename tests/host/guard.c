@@ -135,7 +135,7 @@ static void overlapping_rows(void)
 {
     uint16_t numbers[] = {1, 1, 0, 1, 1, 2, 0, 1, 3, 2, 3, 1, 1, 3, 0, 1, 1, 1, 0, 1};
     const uint16_t wanted[] = {1, 1, 2, 3, 3}, of_two[] = {3, 7, 8};
-    const size_t most = 4096;
+    const size_t most = CLIFFORD_LIST_MOST;
     uint16_t *same = malloc((most + 1) * CLIFFORD_ROW_BYTES);
 
     for (size_t k = 0; k < 3; k++) {
@@ -292,6 +292,78 @@ static void full_batch(void)
     free(numbers);
     free(paulis);
     free(more);
+}
+
+/* These rows are the load, and nothing after them is written; with one byte less
+   room nothing is written at all. */
+static void expect_load(uint16_t d, uint16_t n, uint64_t seed, const uint16_t *numbers,
+                        uint16_t count, const char *what)
+{
+    const size_t len = CLIFFORD_ROW_BYTES * count;
+    uint8_t *wanted = lend(numbers, 4 * (size_t)count);
+    uint8_t *out = output(len + 3);
+
+    expect(clifford_load(d, n, seed, count, out, len + 3) == 0, what);
+    expect_output(wanted, len, len + 3, what);
+    out = output(len - 1);
+    expect(clifford_load(d, n, seed, count, out, len - 1) == CLIFFORD_ROOM, what);
+    expect_output(NULL, 0, len - 1, what);
+    free(wanted);
+}
+
+/* The header's loads; refused ones; no rows; and the most, which are a legal list
+   that begins as the shorter one does. */
+static void loads(void)
+{
+    enum { D = 1024, N = 16 };
+    const uint16_t general[] = {4, 1, 0, 5, 4, 1, 0, 1, 3, 1, 2, 2, 2, 3, 0, 5};
+    const uint16_t one_qudit[] = {4, 1, 0, 5, 4, 1, 0, 1, 1, 1, 0, 3, 2, 1, 0, 5};
+    const uint16_t last_seed[] = {1, 9, 0, 2, 1, 12, 0, 3, 2, 5, 0, 939, 3, 2, 14, 710};
+    static const struct {
+        uint16_t d, n, count, number;
+    } refused[] = {
+        {0, 0, 4097, CLIFFORD_DIMENSION}, {1, 3, 4, CLIFFORD_DIMENSION},
+        {1025, 17, 4097, CLIFFORD_DIMENSION}, {6, 0, 4097, CLIFFORD_WIDTH},
+        {6, 17, 4, CLIFFORD_WIDTH}, {6, 3, 4097, CLIFFORD_LENGTH},
+        {6, 3, 8192, CLIFFORD_LENGTH}, {6, 1, 65535, CLIFFORD_LENGTH},
+    };
+    const size_t most = CLIFFORD_LIST_MOST, len = most * CLIFFORD_ROW_BYTES;
+    uint8_t tableau[CLIFFORD_TABLEAU_BYTES(N)];
+    uint8_t *list = malloc(len), *out;
+
+    if (list == NULL)
+        exit(2);
+    expect_load(6, 3, 0, general, 4, "load");
+    expect_load(6, 1, 0, one_qudit, 4, "load on one qudit");
+    expect_load(D, N, UINT64_MAX, last_seed, 4, "load of the last seed");
+
+    for (size_t k = 0; k < sizeof refused / sizeof *refused; k++)
+        /* With room for the rows, and with none. */
+        for (size_t room = 0; room < 2; room++) {
+            const size_t room_len = room * refused[k].count * CLIFFORD_ROW_BYTES;
+            out = output(room_len);
+            expect(clifford_load(refused[k].d, refused[k].n, 0, refused[k].count, out, room_len)
+                       == refused[k].number,
+                   "load, a refusal");
+            expect_output(NULL, 0, room_len, "load, output on refusal");
+        }
+    expect(clifford_load(6, 3, 0, 1, NULL, 0) == CLIFFORD_ROOM, "load into nothing, a refusal");
+    expect(clifford_load(6, 3, 0, 0, NULL, 0) == 0, "load of no rows");
+    out = output(8);
+    expect(clifford_load(6, 3, 0, 0, out, 8) == 0, "load of no rows, with room");
+    expect_output(NULL, 0, 8, "load of no rows, output");
+
+    out = output(len);
+    expect(clifford_load(D, N, UINT64_MAX, (uint16_t)most, out, len) == 0, "load of the most rows");
+    memcpy(list, out, len);
+    expect_output(list, len, len, "load of the most rows, output");
+    expect(clifford_tableau(D, N, list, len, tableau, sizeof tableau) == 0,
+           "load of the most rows, its tableau");
+    expect(clifford_ticks(D, N, list, len).number == 0, "load of the most rows, its ticks");
+    for (size_t i = 0; i < 16; i++)
+        expect(list[2 * i] + 256 * list[2 * i + 1] == last_seed[i],
+               "load of the most rows, its first rows");
+    free(list);
 }
 
 int main(void)
@@ -476,6 +548,7 @@ int main(void)
     expect(answers(clifford_ticks(4, 2, NULL, 0), 0, 0), "ticks of the empty list");
     expect(answers(clifford_ticks(4, 1, list, list_len), CLIFFORD_ROW, 0), "ticks, a refusal");
     overlapping_rows();
+    loads();
 
     free(list);
     free(tableau);
@@ -491,6 +564,6 @@ int main(void)
     free(phase);
     free(block);
     if (faults == 0)
-        printf("guard: all thirteen calls, no fault\n");
+        printf("guard: all fourteen calls, no fault\n");
     return faults != 0;
 }

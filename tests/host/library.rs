@@ -43,6 +43,9 @@ extern "C" {
         d: u16, n: u16, tableau: *const u8, tableau_len: usize, out: *mut u8, out_len: usize,
     ) -> u16;
     fn clifford_ticks(d: u16, n: u16, list: *const u8, list_len: usize) -> Answer;
+    fn clifford_load(
+        d: u16, n: u16, seed: u64, count: u16, out: *mut u8, out_len: usize,
+    ) -> u16;
 }
 
 #[derive(Clone, Copy, Debug, PartialEq, Eq)]
@@ -60,11 +63,12 @@ pub enum Name {
     Compose,
     Inverse,
     Ticks,
+    Load,
 }
 
 use Name::*;
 
-pub const NAMES: [Name; 13] = [
+pub const NAMES: [Name; 14] = [
     LeastMultiplier,
     Product,
     Power,
@@ -78,6 +82,7 @@ pub const NAMES: [Name; 13] = [
     Compose,
     Inverse,
     Ticks,
+    Load,
 ];
 
 /// What the bytes of an input are.
@@ -105,6 +110,7 @@ impl Name {
             Compose => "clifford_compose",
             Inverse => "clifford_inverse",
             Ticks => "clifford_ticks",
+            Load => "clifford_load",
         }
     }
 
@@ -118,12 +124,13 @@ impl Name {
             Tableau => &[1, 2, 3, 4, 6],
             Synthesis | Image | Images | Compose | Inverse => &[1, 2, 3, 4, 5, 7, 8],
             Ticks => &[1, 2, 3, 6],
+            Load => &[1, 2, 3, 4],
         }
     }
 
     pub fn inputs(self) -> &'static [Layout] {
         match self {
-            LeastMultiplier => &[],
+            LeastMultiplier | Load => &[],
             Product | Commutation => &[Layout::Pauli, Layout::Pauli],
             Power | Support => &[Layout::Pauli],
             Run => &[Layout::List, Layout::Pauli],
@@ -136,14 +143,17 @@ impl Name {
     }
 
     /// The room that the call asks for. Images are as long as their Paulis, so
-    /// it depends on the length of the second input there, and nowhere else.
-    pub fn room(self, n: usize, second_len: usize) -> usize {
+    /// it depends on the length of the second input there, and nowhere else. A
+    /// load's depends on its number of rows.
+    pub fn room(self, x: Numbers, second_len: usize) -> usize {
+        let n = x.n as usize;
         match self {
             LeastMultiplier | Commutation | Support | Ticks => 0,
             Product | Power | Run | Image => calls::pauli_len(n),
             Images => second_len,
             Tableau | Compose | Inverse => calls::tableau_len(n),
             Synthesis => calls::synthesis_room(n),
+            Load => calls::ROW_LEN * x.a as usize,
         }
     }
 }
@@ -177,13 +187,28 @@ impl Lent {
     }
 }
 
-/// The numbers of a call: `a` is also the power k.
+/// The numbers of a call: `a` is also the power k, and a load's number of rows;
+/// `seed` is a load's alone.
 #[derive(Clone, Copy)]
 pub struct Numbers {
     pub d: u16,
     pub n: u16,
     pub a: u16,
     pub b: u16,
+    pub seed: u64,
+}
+
+impl Numbers {
+    /// d and n; the others are 0.
+    pub fn new(d: u16, n: u16) -> Numbers {
+        Numbers {
+            d,
+            n,
+            a: 0,
+            b: 0,
+            seed: 0,
+        }
+    }
 }
 
 /// Support's word as the value of an answer, and the number of qudits touched.
@@ -202,7 +227,7 @@ fn parted(support: calls::Support) -> (Answer, u16) {
 /// Each `Lent` is null with length 0, or so many bytes that stay valid during
 /// the call; the output shares none with an input.
 pub unsafe fn library(name: Name, x: Numbers, first: Lent, second: Lent, out: Lent) -> Answer {
-    let Numbers { d, n, a, b } = x;
+    let Numbers { d, n, a, b, seed } = x;
     let plain = |number| Answer { number, value: 0 };
     let (f, f_len) = (first.at as *const u8, first.len);
     let (s, s_len) = (second.at as *const u8, second.len);
@@ -221,6 +246,7 @@ pub unsafe fn library(name: Name, x: Numbers, first: Lent, second: Lent, out: Le
         Compose => plain(clifford_compose(d, n, f, f_len, s, s_len, o, o_len)),
         Inverse => plain(clifford_inverse(d, n, f, f_len, o, o_len)),
         Ticks => clifford_ticks(d, n, f, f_len),
+        Load => plain(clifford_load(d, n, seed, a, o, o_len)),
     }
 }
 
@@ -234,7 +260,7 @@ pub unsafe fn library_support(x: Numbers, p: Lent) -> (Answer, u16) {
 
 /// Makes the same call to the reference.
 pub fn reference(name: Name, x: Numbers, first: &[u8], second: &[u8], out: &mut [u8]) -> Answer {
-    let Numbers { d, n, a, b } = x;
+    let Numbers { d, n, a, b, seed } = x;
     let plain = |number| Answer { number, value: 0 };
     match name {
         LeastMultiplier => calls::least_multiplier(d, a, b),
@@ -250,6 +276,7 @@ pub fn reference(name: Name, x: Numbers, first: &[u8], second: &[u8], out: &mut 
         Compose => plain(calls::compose(d, n, first, second, out)),
         Inverse => plain(calls::inverse(d, n, first, out)),
         Ticks => calls::ticks(d, n, first),
+        Load => plain(calls::load(d, n, seed, a, out)),
     }
 }
 

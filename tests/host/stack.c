@@ -86,6 +86,11 @@ static void ticks(void)
     number = clifford_ticks(dimension, QUDITS, list, sizeof list).number;
 }
 
+static void load(void)
+{
+    number = clifford_load(dimension, QUDITS, UINT64_MAX, CLIFFORD_LIST_MOST, out, sizeof out);
+}
+
 static const struct {
     const char *name;
     void (*call)(void);
@@ -93,7 +98,7 @@ static const struct {
     {"least_multiplier", least_multiplier}, {"product", product}, {"power", power},
     {"commutation", commutation}, {"support", support}, {"run", run}, {"tableau", tableau},
     {"synthesis", synthesis}, {"image", image}, {"images", images}, {"compose", compose},
-    {"inverse", inverse}, {"ticks", ticks},
+    {"inverse", inverse}, {"ticks", ticks}, {"load", load},
 };
 
 static unsigned long drawn = 1;

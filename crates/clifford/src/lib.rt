@@ -8,7 +8,7 @@ ghost use Rattle.arith.specs.Refusals.{number_of};
 ghost use Rattle.arith.specs.Answers.{Answered, Written, answer_of};
 ghost use Rattle.arith.specs.Calls.{multiplier_refusal};
 ghost use Rattle.pauli.specs.Calls.{product_refusal, product_bytes, power_refusal, power_bytes, commutation_refusal, commutation_number, Supported, support_answer_of};
-ghost use Rattle.gates.specs.Calls.{run_refusal, run_bytes, ticks_refusal, ticks_of};
+ghost use Rattle.gates.specs.Calls.{run_refusal, run_bytes, ticks_refusal, ticks_of, Loaded};
 ghost use Rattle.synthesis.specs.Demand3.{Synthesised};
 ghost use Rattle.synthesis.specs.Chosen.{Chosen};
 ghost use Rattle.tableau.specs.Batch.{images_refusal, images_answer};
@@ -125,4 +125,11 @@ pub fn clifford_ticks(d: u16, n: u16, list: &[u8]) -> Result<u16, Refusal>
     ensures { Answered (ticks_refusal d n list.now) (ticks_of list.now) (answer_of result) }
 {
     gates::calls::ticks(d, n, list)
+}
+
+// The load of `count` rows that the seed gives: a list by a fixed rule, which is legal.
+pub fn clifford_load(d: u16, n: u16, seed: u64, count: u16, out: &mut [u8]) -> Result<(), Refusal>
+    ensures { Loaded d n seed count out.old out.new (number_of result) }
+{
+    gates::calls::load(d, n, seed, count, out)
 }

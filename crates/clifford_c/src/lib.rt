@@ -1,5 +1,5 @@
 // The C interface: an export for each call of the crate clifford, whose Result is handed on in C's layout: a refusal's number, or 0, and beside it what was asked. include/clifford.h has the prototypes.
-// So the thirteen calls stand twice: a static library exports the entries of its own crate alone, and no crate can use a static library, as a caller in Rattle uses clifford.
+// So the fourteen calls stand twice: a static library exports the entries of its own crate alone, and no crate can use a static library, as a caller in Rattle uses clifford.
 // A slice passes as a pointer and a length.
 
 #![tactic(auto)]
@@ -9,7 +9,7 @@ ghost use Rattle.arith.specs.Units.{least_multiplier};
 ghost use Rattle.arith.specs.Answers.{Answered, Written};
 ghost use Rattle.arith.specs.Calls.{multiplier_refusal};
 ghost use Rattle.pauli.specs.Calls.{product_refusal, product_bytes, power_refusal, power_bytes, commutation_refusal, commutation_number, Supported};
-ghost use Rattle.gates.specs.Calls.{run_refusal, run_bytes, ticks_refusal, ticks_of};
+ghost use Rattle.gates.specs.Calls.{run_refusal, run_bytes, ticks_refusal, ticks_of, Loaded};
 ghost use Rattle.synthesis.specs.Demand3.{Synthesised};
 ghost use Rattle.synthesis.specs.Chosen.{Chosen};
 ghost use Rattle.tableau.specs.Batch.{images_refusal, images_answer};
@@ -133,4 +133,12 @@ pub extern "C" fn clifford_ticks(d: u16, n: u16, list: &[u8]) -> Answer
     ensures { Answered (ticks_refusal d n list.now) (ticks_of list.now) result }
 {
     Answer::from(clifford::clifford_ticks(d, n, list))
+}
+
+// The load of `count` rows that the seed gives: a list by a fixed rule, which is legal.
+#[unsafe(no_mangle)]
+pub extern "C" fn clifford_load(d: u16, n: u16, seed: u64, count: u16, out: &mut [u8]) -> u16
+    ensures { Loaded d n seed count out.old out.new result }
+{
+    number(clifford::clifford_load(d, n, seed, count, out))
 }

@@ -11,6 +11,7 @@ use Rattle.pauli.specs.Pauli.{Pauli, unit}
 use Rattle.gates.specs.Row.{F, S, A, X, Z, C, W, run}
 use Rattle.gates.specs.Written.{WrittenRow, rows_of, list_rows, meant, legal_row, all_rows, all_legal_rows}
 use Rattle.gates.specs.Ticks.{largest, tick_of, after_row, row_ticks, last_ticks, ticks, unused}
+use Rattle.gates.specs.Load.{mixed, draw, RowDraws, row_draws, unit_from, drawn_row, load_rows}
 use Rattle.gates.specs.Calls.{ticks_of}
 
 abbrev bytes : List ℕ
@@ -74,3 +75,26 @@ of_c_and_w = refl
 pub two_pairs : (ticks (A 0 1 1 ∷ A 2 3 1 ∷ []) ≡ 1) × (ticks (A 0 1 1 ∷ A 1 2 1 ∷ []) ≡ 2)
 unfolding largest tick_of after_row row_ticks ticks
 two_pairs = (refl, refl)
+
+-- ---- a load (document 02, P5)
+-- the four draws of the first row, and the state that they leave, from the seeds 0, 1 and 2^64 − 1
+abbrev draws : ℕ → ℕ → ℕ → ℕ → ℕ → RowDraws
+draws a b c e s = record { kind = a; first = b; second = c; power = e; state = s }
+
+pub record FirstDraws : Type 0 where
+  pub of_zero : row_draws 0 ≡ draws 0x460BC56C0B801029 0xAC178ADC5F00205B 0xA21C5B2A237E76D8 0x582F15BAB60040B7 0x78DDE6E5FD29F054
+  pub of_one : row_draws 1 ≡ draws 0x460BC56C1380102A 0xAC178ADC5700205A 0xA21C5B29DB7E76A0 0x582F15BABE0040B6 0x78DDE6E5FD29F055
+  pub of_last : row_draws 0xFFFFFFFFFFFFFFFF ≡ draws 0x460BC56C03801028 0xAC178ADC47002058 0xA21C5B2A2B7E76D9 0x582F15BA8E0040B0 0x78DDE6E5FD29F053
+
+pub first_draws : FirstDraws
+unfolding mixed draw row_draws
+first_draws = record { of_zero = refl; of_one = refl; of_last = refl }
+
+-- at d = 6, three qudits: an M power that rises from 2 to 5, and an A row whose second qudit is raised; and one qudit
+pub first_rows : load_rows 6 3 0 6 ≡ row 4 1 0 5 ∷ row 4 1 0 1 ∷ row 3 1 2 2 ∷ row 2 3 0 5 ∷ row 3 1 2 4 ∷ row 6 2 0 2 ∷ []
+unfolding mixed draw row_draws unit_from gcd euclid drawn_row load_rows
+first_rows = refl
+
+pub on_one_qudit : load_rows 6 1 0 4 ≡ row 4 1 0 5 ∷ row 4 1 0 1 ∷ row 1 1 0 3 ∷ row 2 1 0 5 ∷ []
+unfolding mixed draw row_draws unit_from gcd euclid drawn_row load_rows
+on_one_qudit = refl

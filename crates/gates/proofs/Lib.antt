@@ -4,6 +4,7 @@ pub mod Common
 pub mod Examples
 pub mod Kept
 pub mod LastTicks
+pub mod Loads
 pub mod Rows
 pub mod Run
 pub mod Schedules

@@ -3,6 +3,7 @@ pub mod Row
 pub mod Kind
 pub mod Written
 pub mod Ticks
+pub mod Load
 pub mod Calls
 pub mod Schedules
 pub mod Common

@@ -2,11 +2,12 @@
 ghost use Rattle.std.specs.Prelude.{◌≡◌, length, IfOk};
 ghost use Rattle.arith.specs.Refusals.{number_of};
 ghost use Rattle.arith.specs.Answers.{Answered, Written, answer_of};
-ghost use Rattle.gates.specs.Calls.{run_refusal, run_bytes, ticks_refusal, ticks_of};
+ghost use Rattle.gates.specs.Calls.{run_refusal, run_bytes, ticks_refusal, ticks_of, load_refusal, Loaded};
 
 use crate::lists::LegalList;
+use crate::load::write_load;
 use arith::checks::Refusal;
-use arith::modulus::given_list;
+use arith::modulus::{Modulus, Width, given_list};
 use pauli::Pauli;
 
 // 1, 2, then 3 of the list and of the Pauli, 4 of an output of so many bytes, 5 of the Pauli, 6 of the list.
@@ -56,4 +57,25 @@ pub fn ticks(d: u16, n: u16, list: &[u8]) -> Result<u16, Refusal>
 {
     ticks_check(d, n, list)?;
     Ok(crate::lists::list_ticks(list))
+}
+
+// 1, 2, then 3 where count is above 4,096, 4 of an output of `room` bytes.
+fn load_check(d: u16, n: u16, count: u16, room: usize) -> Result<(Modulus, Width), Refusal>
+    ensures refusal { number_of result ≡ load_refusal d n count room }
+    ensures value { IfOk result (λ both. both ≡ (d, n)) }
+{
+    let size = 8 * (count as usize);
+    let both = given_list(d, n, size)?;
+    arith::checks::room(size, room)?;
+    Ok(both)
+}
+
+// A load of `count` rows.
+#[tactic(auto, using(crate::proofs::Accepted::load_accepted, crate::proofs::Loads::load_answer))]
+pub fn load(d: u16, n: u16, seed: u64, count: u16, out: &mut [u8]) -> Result<(), Refusal>
+    ensures { Loaded d n seed count out.old out.new (number_of result) }
+{
+    let (modulus, width) = load_check(d, n, count, out.len())?;
+    write_load(modulus, width, seed, count, out);
+    Ok(())
 }

@@ -20,6 +20,7 @@ use pauli::touched::Touched;
 pub mod calls;
 pub mod kind;
 pub mod lists;
+pub mod load;
 
 // A gate row as it is written: the qudits count from 1, and the second is 0 where the kind takes one.
 // That a row is legal is a clause and no type of row: `undo` and `act` promise their result for every n at which it is legal, which a type that holds d and n would narrow.

@@ -1,4 +1,4 @@
-//! The thirteen public calls on bytes. Each runs its tests in the order of the
+//! The fourteen public calls on bytes. Each runs its tests in the order of the
 //! table over all its inputs and answers with the first that fails; it writes
 //! to the output only after all of them hold. (Images tests the Paulis after its
 //! first last, one by one.)
@@ -395,5 +395,17 @@ pub fn ticks(d: u16, n: u16, list: &[u8]) -> Answer {
         list_length(list)?;
         let rows = legal_rows(list, d, n)?;
         Ok(crate::ticks(&rows, n))
+    })())
+}
+
+pub fn load(d: u16, n: u16, seed: u64, count: u16, out: &mut [u8]) -> u16 {
+    number((|| {
+        let d = dimension(d)?;
+        let n = width(n)?;
+        let count = count as usize;
+        refuse_unless(count <= MOST_ROWS, LENGTH)?;
+        room(out, ROW_LEN * count)?;
+        write(out, &bytes_of_rows(&crate::load::rows(d, n, seed, count)));
+        Ok(())
     })())
 }

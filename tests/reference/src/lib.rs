@@ -4,10 +4,11 @@
 //! rules and takes no short cut for speed.
 //!
 //! This file has the mathematics: numbers are `i64` and always reduced.
-//! `calls` has the thirteen public calls on bytes, `text` the text program,
-//! `random` the seeded inputs.
+//! `load` has the lists made of a seed, `calls` the fourteen public calls on
+//! bytes, `text` the text program, `random` the seeded inputs.
 
 pub mod calls;
+pub mod load;
 pub mod random;
 pub mod text;
 

@@ -448,6 +448,160 @@ fn ticks_are_the_fewest() {
     }
 }
 
+/// The number of a load, and its output, which held 0xA5 in every byte.
+fn load_given(d: u16, n: u16, seed: u64, count: u16, room: usize) -> (u16, Vec<u8>) {
+    let mut out = vec![0xA5; room];
+    let number = calls::load(d, n, seed, count, &mut out);
+    (number, out)
+}
+
+/// Worked out with whole numbers of any size, modulo 2^64. The last seed and the
+/// step make 0, whose draw is 0; its other draws are those of seed 0.
+#[test]
+fn draws_by_hand() {
+    let of_0 = [
+        0x460b_c56c_0b80_1029,
+        0xac17_8adc_5f00_205b,
+        0xa21c_5b2a_237e_76d8,
+        0x582f_15ba_b600_40b7,
+    ];
+    for (seed, wanted) in [
+        (0, of_0),
+        (
+            1,
+            [
+                0x460b_c56c_1380_102a,
+                0xac17_8adc_5700_205a,
+                0xa21c_5b29_db7e_76a0,
+                0x582f_15ba_be00_40b6,
+            ],
+        ),
+        (
+            u64::MAX,
+            [
+                0x460b_c56c_0380_1028,
+                0xac17_8adc_4700_2058,
+                0xa21c_5b2a_2b7e_76d9,
+                0x582f_15ba_8e00_40b0,
+            ],
+        ),
+        (0x61c8_8646_80b5_83eb, [0, of_0[0], of_0[1], of_0[2]]),
+    ] {
+        let mut draws = load::Draws::new(seed);
+        assert_eq!([(); 4].map(|_| draws.next()), wanted, "{seed}");
+    }
+}
+
+/// The first rows of loads, worked out in the same way. In the first load M has
+/// its power raised, from 2 to 5, and A its second qudit; the second load has F
+/// in place of each A of the first.
+#[test]
+fn loads_by_hand() {
+    let written = |row: &Row| {
+        let letter = ["F", "S", "A", "M", "X", "Z"][row.kind as usize - 1];
+        format!("{letter},{},{},{}", row.first, row.second, row.power)
+    };
+    for (d, n, seed, wanted) in [
+        (6, 3, 0, "M,1,0,5 M,1,0,1 A,1,2,2 S,3,0,5 A,1,2,4 Z,2,0,2"),
+        (6, 1, 0, "M,1,0,5 M,1,0,1 F,1,0,3 S,1,0,5 F,1,0,2 Z,1,0,2"),
+        (2, 2, 1, "F,1,0,2 F,2,0,1 S,1,0,3 F,2,0,1 Z,1,0,1 A,2,1,1"),
+        (
+            30,
+            4,
+            0x0123_4567_89ab_cdef,
+            "A,1,3,17 X,2,0,8 M,3,0,17 X,4,0,24 M,4,0,13 A,2,1,12",
+        ),
+        (
+            1024,
+            1,
+            1 << 63,
+            "M,1,0,569 S,1,0,1642 F,1,0,2 S,1,0,595 F,1,0,2 M,1,0,63",
+        ),
+        (
+            1024,
+            16,
+            u64::MAX,
+            "F,9,0,2 F,12,0,3 S,5,0,939 A,2,14,710 Z,3,0,58 F,12,0,2",
+        ),
+    ] {
+        let wanted: Vec<String> = wanted.split(' ').map(String::from).collect();
+        for count in 0..=wanted.len() {
+            let end = calls::ROW_LEN * count;
+            let (number, out) = load_given(d, n, seed, count as u16, end + 3);
+            let rows = calls::rows_of_bytes(&out[..end]);
+            let rows: Vec<String> = rows.iter().map(written).collect();
+            assert_eq!((number, &rows[..]), (0, &wanted[..count]));
+            assert_eq!(out[end..], [0xA5; 3]);
+        }
+    }
+}
+
+/// Each refusal, and of several the first in the order of the table.
+#[test]
+fn load_refusals() {
+    for (d, n) in [0, 1, 2, 6, 1024, 1025, u16::MAX]
+        .into_iter()
+        .flat_map(|d| [0, 1, 3, 16, 17, u16::MAX].map(|n| (d, n)))
+    {
+        for count in [0, 1, 2, 4095, 4096, 4097, 8192, 8193, u16::MAX] {
+            let needed = calls::ROW_LEN * count as usize;
+            for room in [0, needed.saturating_sub(1), needed, needed + 9] {
+                let wanted = match () {
+                    _ if !(2..=1024).contains(&d) => calls::DIMENSION,
+                    _ if !(1..=16).contains(&n) => calls::WIDTH,
+                    _ if count > 4096 => calls::LENGTH,
+                    _ if room < needed => calls::ROOM,
+                    _ => 0,
+                };
+                let (number, out) = load_given(d, n, 5, count, room);
+                assert_eq!(number, wanted, "{d} {n} {count} {room}");
+                let written = if number == 0 { needed } else { 0 };
+                assert!(out[written..].iter().all(|&byte| byte == 0xA5));
+            }
+        }
+    }
+}
+
+/// Every row is legal. A row of a seed is the first one of another, four steps on
+/// for each row before it; and its kind, but for A on one qudit, comes of the seed
+/// alone.
+#[test]
+fn laws_of_loads() {
+    const STEP: u64 = 0x9e37_79b9_7f4a_7c15;
+    let mut random = Random::new(9, 0);
+    let mut met = std::collections::HashSet::new();
+    for d in DIMENSIONS.map(i64::from) {
+        for n in 1..=16 {
+            for seed in [0, 1, u64::MAX, random.next()] {
+                let count = random.between(0, 60);
+                let rows = load::rows(d, n, seed, count);
+                assert_eq!(rows.len(), count);
+                let wide = load::rows(1024, 16, seed, count);
+                for (place, row) in rows.iter().enumerate() {
+                    assert!(row.is_legal(d, n), "d = {d}, n = {n}, {row:?}");
+                    let later = seed.wrapping_add(STEP.wrapping_mul(4 * place as u64));
+                    assert_eq!(load::rows(d, n, later, 1), [*row]);
+                    let one_for_a = n == 1 && wide[place].kind == A;
+                    assert_eq!(row.kind, if one_for_a { F } else { wide[place].kind });
+                    met.insert((d, row.kind, row.power));
+                }
+            }
+        }
+    }
+    // Each legal power of the first dimensions comes up.
+    for (d, kind, power) in (2..=6).flat_map(|d| {
+        (F..=Z).flat_map(move |kind| (1..2 * d as u16).map(move |power| (d, kind, power)))
+    }) {
+        let second = if takes_two(kind) { 2 } else { 0 };
+        let is_legal = row(kind, 1, second, power).is_legal(d, 2);
+        assert_eq!(
+            met.contains(&(d, kind, power)),
+            is_legal,
+            "{d} {kind} {power}"
+        );
+    }
+}
+
 #[test]
 fn limits_of_d_and_n() {
     for d in [0, 1, 2, 1024, 1025, u16::MAX] {
