@@ -12,6 +12,7 @@ ghost use Rattle.gates.specs.Calls.{run_refusal, run_bytes, ticks_refusal, ticks
 ghost use Rattle.synthesis.specs.Demand3.{Synthesised};
 ghost use Rattle.synthesis.specs.Chosen.{Chosen};
 ghost use Rattle.tableau.specs.Batch.{images_refusal, images_answer};
+ghost use Rattle.tableau.specs.Bytes.{decode_tableau};
 ghost use Rattle.tableau.specs.Calls.{tableau_refusal, tableau_answer, image_refusal, image_answer, compose_refusal, compose_answer, inverse_refusal, inverse_answer};
 
 use arith::checks::Refusal;
@@ -69,7 +70,7 @@ pub fn clifford_tableau(d: u16, n: u16, list: &[u8], out: &mut [u8]) -> Result<(
 // A list that does the tableau, and its number of rows.
 pub fn clifford_synthesis(d: u16, n: u16, tableau: &[u8], out: &mut [u8]) -> Result<u16, Refusal>
     ensures synthesised { Synthesised d n tableau.now out.old out.new (answer_of result) }
-    ensures chosen { Chosen d n tableau.now out.new (answer_of result) }
+    ensures chosen { Chosen d n (decode_tableau n tableau.now) out.new (answer_of result) }
 {
     synthesis::calls::synthesis(d, n, tableau, out)
 }

@@ -13,6 +13,7 @@ ghost use Rattle.gates.specs.Calls.{run_refusal, run_bytes, ticks_refusal, ticks
 ghost use Rattle.synthesis.specs.Demand3.{Synthesised};
 ghost use Rattle.synthesis.specs.Chosen.{Chosen};
 ghost use Rattle.tableau.specs.Batch.{images_refusal, images_answer};
+ghost use Rattle.tableau.specs.Bytes.{decode_tableau};
 ghost use Rattle.tableau.specs.Calls.{tableau_refusal, tableau_answer, image_refusal, image_answer, compose_refusal, compose_answer, inverse_refusal, inverse_answer};
 
 use arith::checks::{Answer, number};
@@ -78,7 +79,7 @@ pub extern "C" fn clifford_tableau(d: u16, n: u16, list: &[u8], out: &mut [u8]) 
 #[unsafe(no_mangle)]
 pub extern "C" fn clifford_synthesis(d: u16, n: u16, tableau: &[u8], out: &mut [u8]) -> Answer
     ensures synthesised { Synthesised d n tableau.now out.old out.new result }
-    ensures chosen { Chosen d n tableau.now out.new result }
+    ensures chosen { Chosen d n (decode_tableau n tableau.now) out.new result }
 {
     Answer::from(clifford::clifford_synthesis(d, n, tableau, out))
 }

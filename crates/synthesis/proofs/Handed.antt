@@ -26,7 +26,7 @@ use Rattle.tableau.specs.Soundness.{soundness_of}
 use Rattle.tableau.proofs.Tests.{soundness_says, sound_good}
 use Rattle.synthesis.specs.Inner.Reduce.{State, start, reduce, synthesised}
 use Rattle.synthesis.specs.Inner.Progress.{undo_rows, Holds}
-use Rattle.synthesis.specs.Demand3.{Realises, Realisable, malformed_of, synthesis_refusal, handed, HandsBack, WellGiven, Synthesised}
+use Rattle.synthesis.specs.Demand3.{Realises, Realisable, malformed_of, synthesis_refusal, handed, HandsBack, WellGiven, Promise}
 use Rattle.synthesis.proofs.Premises.{malformed_exactly, formed_given}
 use Rattle.synthesis.proofs.Progress.{undo_length}
 use Rattle.synthesis.proofs.Demand3.{sound_realised, accepted_realisable, refused_unrealisable}
@@ -40,6 +40,9 @@ module _ (d n : ℕ) (bytes : List ℕ) (room : ℕ) where
   -- what the lengths decide, then what the numbers decide
   pub refusal_parts : synthesis_refusal d n bytes room ≡ or_else (or_else (sized_of d n (length bytes)) (room_of (40 * (n * n) + 48 * n) room)) (tests_of d n (decode_tableau n bytes))
   refusal_parts = simp or_else_assoc
+
+  pub well_formed : malformed_of d n bytes room ≡ 0 → (1 < d) × WellFormed d n (decode_tableau n bytes)
+  well_formed e = let w = (malformed_exactly d n bytes room).0 e in (w.dimension.d_low, formed_given w)
 
   pub accepted_given : synthesis_refusal d n bytes room ≡ 0 → WellGiven d n bytes room × Sound d n (decode_tableau n bytes)
   accepted_given e = let z = or_else_none (malformed_of d n bytes room) _ e in ((malformed_exactly d n bytes room).0 z.0, sound_good z.1)
@@ -90,40 +93,31 @@ module _ {d n : ℕ} {t : List Pauli} (one : 1 < d) (formed : WellFormed d n t) 
         later = ap (drop (8 * count)) f ∙ drop_at (encode_rows ws) (drop (length (encode_rows ws)) old) (8 * count) k ∙ ap (λ (x : ℕ). drop x old) k;
       }
 
--- ---- the promise, from its number, its list and its refusals
-module _ {d n : ℕ} {bytes old new : List ℕ} {a : Answer} (e : a.number ≡ synthesis_refusal d n bytes (length old)) where
-  promise : (a.number ≡ 0 → HandsBack d n (decode_tableau n bytes) a.value old new) → (a.number ≢ 0 → (a.value ≡ 0) × (new ≡ old)) → Synthesised d n bytes old new a
+-- ---- the promise, from its number, its list and its refusals. A call that isn't malformed has a tableau of 2n columns in range
+module _ {d n malformed : ℕ} {t : List Pauli} {old new : List ℕ} {a : Answer} (well : malformed ≡ 0 → (1 < d) × WellFormed d n t) (e : a.number ≡ or_else malformed (soundness_of d n t)) where
+  promise : (a.number ≡ 0 → HandsBack d n t a.value old new) → (a.number ≢ 0 → (a.value ≡ 0) × (new ≡ old)) → Promise d n malformed t old new a
   promise f g = record {
     number = e;
-    unrealisable = λ z. subst (λ (x : ℕ). ((x ≡ 7) ⊎ (x ≡ 8)) ↔ ¬ Realisable d n t) (sym (at z)) (refused_unrealisable (one z) (formed_given (well z)));
+    unrealisable = λ z. subst (λ (x : ℕ). ((x ≡ 7) ⊎ (x ≡ 8)) ↔ ¬ Realisable d n t) (sym (at z)) (refused_unrealisable (well z).0 (well z).1);
     seven = λ z. subst (λ (x : ℕ). (x ≡ 7) ↔ ¬ Pairing d n t) (sym (at z)) soundness_says.seven;
     eight = λ z. subst (λ (x : ℕ). (x ≡ 8) ↔ (Pairing d n t × ¬ Even d n t)) (sym (at z)) soundness_says.eight;
-    accepted = λ z. subst (λ (x : ℕ). (x ≡ 0) ↔ Realisable d n t) (sym (at z)) (accepted_realisable (one z) (formed_given (well z)));
+    accepted = λ z. subst (λ (x : ℕ). (x ≡ 0) ↔ Realisable d n t) (sym (at z)) (accepted_realisable (well z).0 (well z).1);
     list = f;
     refused = g;
   }
     where
-      t : List Pauli
-      t = decode_tableau n bytes
-
-      well : malformed_of d n bytes (length old) ≡ 0 → WellGiven d n bytes (length old)
-      well = (malformed_exactly d n bytes (length old)).0
-
-      one : malformed_of d n bytes (length old) ≡ 0 → 1 < d
-      one z = (well z).dimension.d_low
-
-      at : malformed_of d n bytes (length old) ≡ 0 → a.number ≡ soundness_of d n t
+      at : malformed ≡ 0 → a.number ≡ soundness_of d n t
       at z = e ∙ or_else_skip (soundness_of d n t) z
 
   -- where nothing is refused, and the list is written
-  pub promise_accepted : a.number ≡ 0 → a.value ≡ length (synthesised d n (decode_tableau n bytes)) → new ≡ front (encode_rows (map written (synthesised d n (decode_tableau n bytes)))) old
-      → Synthesised d n bytes old new a
+  pub promise_accepted : a.number ≡ 0 → a.value ≡ length (synthesised d n t) → new ≡ front (encode_rows (map written (synthesised d n t))) old → Promise d n malformed t old new a
   promise_accepted z v f =
-      let w = accepted_given d n bytes (length old) (sym e ∙ z) in
-      promise (λ q. hands_back w.0.dimension.d_low (formed_given w.0) w.1 v f) (λ ne. absurd (ne z))
+      let w = or_else_none malformed (soundness_of d n t) (sym e ∙ z) in
+      promise (λ q. hands_back (well w.0).0 (well w.0).1 (sound_good w.1) v f) (λ ne. absurd (ne z))
 
 -- where it is refused
-pub promise_refused : {A : Type 0} {d n : ℕ} {bytes old : List ℕ} {a : Answer} {r : Result A Refusal} → Stops r (synthesis_refusal d n bytes (length old)) → (a.number ≡ number_of r) × (a.value ≡ 0) → Synthesised d n bytes old old a
-promise_refused {d = d} {n = n} {bytes = bytes} {old = old} {a = a} s e =
-    let q : a.number ≡ synthesis_refusal d n bytes (length old) = e.0 ∙ s.same in
-    promise q (λ z. absurd (stops_some s (sym q ∙ z))) (λ ne. (e.1, refl))
+pub promise_refused : {A : Type 0} {d n malformed : ℕ} {t : List Pauli} {old : List ℕ} {a : Answer} {r : Result A Refusal} → (malformed ≡ 0 → (1 < d) × WellFormed d n t) → Stops r (or_else malformed (soundness_of d n t))
+    → (a.number ≡ number_of r) × (a.value ≡ 0) → Promise d n malformed t old old a
+promise_refused {d = d} {n = n} {malformed = malformed} {t = t} {a = a} well s e =
+    let q : a.number ≡ or_else malformed (soundness_of d n t) = e.0 ∙ s.same in
+    promise well q (λ z. absurd (stops_some s (sym q ∙ z))) (λ ne. (e.1, refl))

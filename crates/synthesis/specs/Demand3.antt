@@ -19,17 +19,7 @@ pub record Realises (d n : ℕ) (rows : List Row) (t : List Pauli) : Type 0 wher
 abbrev pub Realisable : ℕ → ℕ → List Pauli → Type 0
 Realisable d n t = (rows : List Row) × Realises d n rows t
 
--- ---- the call, on a tableau in bytes and an output of `room` bytes
--- malformed calls, in the order of the table: 1 and 2; 3, the tableau isn't as long as its layout says; 4, the output is shorter than 40n² + 48n bytes; 5, a
--- number of the tableau is out of range
-abbrev pub malformed_of : ℕ → ℕ → List ℕ → ℕ → ℕ
-malformed_of d n bytes room =
-    or_else (given_of d n) (or_else (size_of (tableau_bytes n) (length bytes)) (or_else (room_of (40 * (n * n) + 48 * n) room) (tableau_range_of d (decode_tableau n bytes))))
-
--- every refusal: these, then 7, pairing, and 8, parity
-abbrev pub synthesis_refusal : ℕ → ℕ → List ℕ → ℕ → ℕ
-synthesis_refusal d n bytes room = or_else (malformed_of d n bytes room) (soundness_of d n (decode_tableau n bytes))
-
+-- ---- a call that takes a tableau t and hands back a list, whatever bytes the tableau is held in
 -- the list handed back: from the output's first byte on, 8 bytes a row, as many rows as the count says
 abbrev pub handed : ℕ → List ℕ → List ℕ
 handed count out = take (8 * count) out
@@ -48,8 +38,41 @@ pub record HandsBack (d n : ℕ) (t : List Pauli) (count : ℕ) (old new : List 
   pub later : drop (8 * count) new ≡ drop (8 * count) old
 
 -- ---- demand 3
--- its premises: d is 2 to 1,024, n is 1 to 16, the tableau has the right length and all its numbers are in range, and the output is long enough for 5n² + 6n rows.
--- `malformed_exactly` of proofs/Premises: a call isn't malformed exactly when these hold
+-- its premises depend on the layout: `WellGiven` below. Its conclusion: the tableau is refused as unrealisable exactly when no list of legal rows, of any length, carries every unit Pauli to its column; for every
+-- other tableau a list is handed back, and `HandsBack` says what holds of it.
+-- `demand3_holds` of proofs/Premises: it follows from what the call promises (`Promise`), where the call isn't malformed
+pub record Demand3 (d n : ℕ) (t : List Pauli) (old new : List ℕ) (a : Answer) : Type 0 where
+  pub unrealisable : ((a.number ≡ 7) ⊎ (a.number ≡ 8)) ↔ ¬ Realisable d n t
+  pub otherwise : ¬ ((a.number ≡ 7) ⊎ (a.number ≡ 8)) → (a.number ≡ 0) × HandsBack d n t a.value old new
+
+-- ---- the promise of the call, where `malformed` is the refusal of a malformed call, 0 for none, and t the tableau that its bytes hold: these two depend on the layout; all else is the same for every layout
+pub record Promise (d n malformed : ℕ) (t : List Pauli) (old new : List ℕ) (a : Answer) : Type 0 where
+  -- the number is the first refusal in the order of the table, 0 for none: `malformed`, then 7, pairing, then 8, parity
+  pub number : a.number ≡ or_else malformed (soundness_of d n t)
+  -- a call that isn't malformed is refused as unrealisable exactly when no list of legal rows, of any length, realises the tableau: by 7 exactly where pairing
+  -- fails, by 8 exactly where pairing holds and parity fails
+  pub unrealisable : malformed ≡ 0 → ((a.number ≡ 7) ⊎ (a.number ≡ 8)) ↔ ¬ Realisable d n t
+  pub seven : malformed ≡ 0 → (a.number ≡ 7) ↔ ¬ Pairing d n t
+  pub eight : malformed ≡ 0 → (a.number ≡ 8) ↔ (Pairing d n t × ¬ Even d n t)
+  -- for every other tableau a list is handed back
+  pub accepted : malformed ≡ 0 → (a.number ≡ 0) ↔ Realisable d n t
+  pub list : a.number ≡ 0 → HandsBack d n t a.value old new
+  -- a refused call hands back 0, and changes no byte of the output
+  pub refused : a.number ≢ 0 → (a.value ≡ 0) × (new ≡ old)
+
+-- ---- the call for any d on up to 16 qudits, on a tableau in bytes and an output of `room` bytes
+-- malformed calls, in the order of the table: 1 and 2; 3, the tableau isn't as long as its layout says; 4, the output is shorter than 40n² + 48n bytes; 5, a
+-- number of the tableau is out of range
+abbrev pub malformed_of : ℕ → ℕ → List ℕ → ℕ → ℕ
+malformed_of d n bytes room =
+    or_else (given_of d n) (or_else (size_of (tableau_bytes n) (length bytes)) (or_else (room_of (40 * (n * n) + 48 * n) room) (tableau_range_of d (decode_tableau n bytes))))
+
+-- every refusal: these, then 7, pairing, and 8, parity
+abbrev pub synthesis_refusal : ℕ → ℕ → List ℕ → ℕ → ℕ
+synthesis_refusal d n bytes room = or_else (malformed_of d n bytes room) (soundness_of d n (decode_tableau n bytes))
+
+-- the premises of demand 3: d is 2 to 1,024, n is 1 to 16, the tableau has the right length and all its numbers are in range, and the output is long enough for 5n² + 6n rows.
+-- `malformed_exactly` of proofs/Premises: a call isn't malformed exactly when these hold. `demand3` there: these and the promise give the conclusion
 pub record WellGiven (d n : ℕ) (bytes : List ℕ) (room : ℕ) : Type 0 where
   pub dimension : Dimension d
   pub width : Width n
@@ -57,24 +80,6 @@ pub record WellGiven (d n : ℕ) (bytes : List ℕ) (room : ℕ) : Type 0 where
   pub ranges : AllInRange d n (decode_tableau n bytes)
   pub roomy : 8 * (5 * (n * n) + 6 * n) ≤ room
 
--- its conclusion: the tableau is refused as unrealisable exactly when no list of legal rows, of any length, carries every unit Pauli to its column; for every
--- other tableau a list is handed back, and `HandsBack` says what holds of it.
--- `demand3` of proofs/Premises: what the call promises (`Synthesised`) and the premises give the conclusion
-pub record Demand3 (d n : ℕ) (t : List Pauli) (old new : List ℕ) (a : Answer) : Type 0 where
-  pub unrealisable : ((a.number ≡ 7) ⊎ (a.number ≡ 8)) ↔ ¬ Realisable d n t
-  pub otherwise : ¬ ((a.number ≡ 7) ⊎ (a.number ≡ 8)) → (a.number ≡ 0) × HandsBack d n t a.value old new
-
--- ---- the promise of the call, for every d, every n, every tableau in bytes and every output
-pub record Synthesised (d n : ℕ) (bytes old new : List ℕ) (a : Answer) : Type 0 where
-  -- the number is the first refusal in the order of the table, 0 for none
-  pub number : a.number ≡ synthesis_refusal d n bytes (length old)
-  -- a call that isn't malformed is refused as unrealisable exactly when no list of legal rows, of any length, realises the tableau: by 7 exactly where pairing
-  -- fails, by 8 exactly where pairing holds and parity fails
-  pub unrealisable : malformed_of d n bytes (length old) ≡ 0 → ((a.number ≡ 7) ⊎ (a.number ≡ 8)) ↔ ¬ Realisable d n (decode_tableau n bytes)
-  pub seven : malformed_of d n bytes (length old) ≡ 0 → (a.number ≡ 7) ↔ ¬ Pairing d n (decode_tableau n bytes)
-  pub eight : malformed_of d n bytes (length old) ≡ 0 → (a.number ≡ 8) ↔ (Pairing d n (decode_tableau n bytes) × ¬ Even d n (decode_tableau n bytes))
-  -- for every other tableau a list is handed back
-  pub accepted : malformed_of d n bytes (length old) ≡ 0 → (a.number ≡ 0) ↔ Realisable d n (decode_tableau n bytes)
-  pub list : a.number ≡ 0 → HandsBack d n (decode_tableau n bytes) a.value old new
-  -- a refused call hands back 0, and changes no byte of the output
-  pub refused : a.number ≢ 0 → (a.value ≡ 0) × (new ≡ old)
+-- what it promises, for every d, every n, every tableau in bytes and every output
+abbrev pub Synthesised : ℕ → ℕ → List ℕ → List ℕ → List ℕ → Answer → Type 0
+Synthesised d n bytes old new a = Promise d n (malformed_of d n bytes (length old)) (decode_tableau n bytes) old new a

@@ -1,3 +1,5 @@
 pub mod Reduce
 pub mod Progress
+pub mod Held
+pub mod Seen
 pub mod Did

@@ -39,7 +39,7 @@ pub unsound_no_list : {d n : ℕ} {t : List Pauli} → 1 < d → ¬ Sound d n t 
 unsound_no_list one f rows legal e = f (listed_sound one rows legal e)
 
 module _ {d n : ℕ} (one : 1 < d) where
-  listed_passes : {t : List Pauli} (rows : List Row) → AllLegal d n rows → tableau_of d n rows ≡ t → soundness_of d n t ≡ 0
+  pub listed_passes : {t : List Pauli} (rows : List Row) → AllLegal d n rows → tableau_of d n rows ≡ t → soundness_of d n t ≡ 0
   listed_passes {t} rows legal e = let s = listed_sound one rows legal e in (soundness_says {d = d} {n = n} {t = t}).accepted.1 (s.pairing, s.parities)
 
   pub refused_no_list : (t : List Pauli) → Unrealisable (soundness_of d n t) → (rows : List Row) → AllLegal d n rows → tableau_of d n rows ≡ t → ⊥
@@ -48,16 +48,16 @@ module _ {d n : ℕ} (one : 1 < d) where
 
 -- ---- the calls: where one refuses by 7 or by 8, the tests before are past, so it is the tableau that is unsound
 -- a refusal below 7 is not the answer
-later : (x y : ℕ) → x < 7 → Unrealisable (or_else x y) → (x ≡ 0) × Unrealisable y
+pub later : (x y : ℕ) → x < 7 → Unrealisable (or_else x y) → (x ≡ 0) × Unrealisable y
 later zero y l u = (refl, u)
 later (suc x) y l (inl e) = absurd (omega arith)
 later (suc x) y l (inr e) = absurd (omega arith)
 
-unless_below : (k : Refusal) (test : Bool) → refusal_number k < 7 → unless_holds k test < 7
+pub unless_below : (k : Refusal) (test : Bool) → refusal_number k < 7 → unless_holds k test < 7
 unless_below k true l = omega arith
 unless_below k false l = l
 
-or_below : (x y : ℕ) → x < 7 → y < 7 → or_else x y < 7
+pub or_below : (x y : ℕ) → x < 7 → y < 7 → or_else x y < 7
 or_below zero y l m = m
 or_below (suc x) y l m = l
 
@@ -65,15 +65,15 @@ given_below : (d n : ℕ) → given_of d n < 7
 unfolding given_of dimension_of width_of
 given_below d n = or_below (dimension_of d) (width_of n) (unless_below Dimension (leb 2 d && leb d 1024) (omega arith)) (unless_below Width (leb 1 n && leb n 16) (omega arith))
 
-size_below : (want have : ℕ) → size_of want have < 7
+pub size_below : (want have : ℕ) → size_of want have < 7
 unfolding size_of
 size_below want have = unless_below Length (eqb have want) (omega arith)
 
-room_below : (want have : ℕ) → room_of want have < 7
+pub room_below : (want have : ℕ) → room_of want have < 7
 unfolding room_of
 room_below want have = unless_below Room (leb want have) (omega arith)
 
-range_below : (bound x : ℕ) → range_of bound x < 7
+pub range_below : (bound x : ℕ) → range_of bound x < 7
 unfolding range_of
 range_below bound x = unless_below Range (ltb x bound) (omega arith)
 
@@ -110,7 +110,7 @@ tests_no_list : {d n : ℕ} → 1 < d → (t : List Pauli) → Unrealisable (tes
 tests_no_list {d} one t r = refused_no_list one t (later (tableau_range_of d t) _ (tableau_below d t) r).1
 
 -- a batch: no list has the tableau, whichever of the single calls refuses
-none_refused : {r : ℕ} → r ≡ 0 → Unrealisable r → ⊥
+pub none_refused : {r : ℕ} → r ≡ 0 → Unrealisable r → ⊥
 none_refused z (inl e) = omega arith
 none_refused z (inr e) = omega arith
 
@@ -149,7 +149,7 @@ inverse_no_list d n t room r =
     tests_no_list (given_good a.0).dimension.d_low (decode_tableau n t) c.1
 
 -- composition: no two lists have the two tableaus
-both_listed : (d n : ℕ) (t u : List Pauli) → soundness_of d n t ≡ 0 → soundness_of d n u ≡ 0 → both_soundness_of d n t u ≡ 0
+pub both_listed : (d n : ℕ) (t u : List Pauli) → soundness_of d n t ≡ 0 → soundness_of d n u ≡ 0 → both_soundness_of d n t u ≡ 0
 both_listed d n t u e f =
     let a = or_else_none (pairing_of (pairing_holds d n t)) (parity_of (parity_holds d n t)) e in
     let b = or_else_none (pairing_of (pairing_holds d n u)) (parity_of (parity_holds d n u)) f in

@@ -16,7 +16,7 @@ use Rattle.synthesis.specs.Inner.Reduce.{synthesised}
 use Rattle.synthesis.specs.Demand3.{synthesis_refusal}
 use Rattle.synthesis.proofs.Theorem.{synthesis}
 use Rattle.synthesis.proofs.Premises.{formed_given}
-use Rattle.synthesis.proofs.Handed.{square_small, refusal_parts, accepted_given, promise_accepted, promise_refused}
+use Rattle.synthesis.proofs.Handed.{square_small, refusal_parts, well_formed, accepted_given, promise_accepted, promise_refused}
 use Rattle.synthesis.proofs.Chosen.{chosen_accepted}
 use Rattle.synthesis.proofs.calls.synthesis.Goals.{In_ok-tests}
 use Rattle.synthesis.proofs.calls.synthesis.Goals as goal
@@ -58,7 +58,7 @@ pub returns-in_err-modulus-clause-synthesised : goal.returns-in_err-modulus-clau
 returns-in_err-modulus-clause-synthesised c =
     let a = c.args in
     let p = err_from_is_err_and c.from_residual.result c.from_residual.ensures.1 in
-    rw (p.1, p.2) (promise_refused {A = ℕ} (stop_first _ _ (refusal_parts a.d a.n a.tableau.now (length a.out.now)) c.in_err-modulus.ensures.refusal refl) (refl, refl))
+    rw (p.1, p.2) (promise_refused {A = ℕ} (well_formed a.d a.n a.tableau.now (length a.out.now)) (stop_first _ _ (refusal_parts a.d a.n a.tableau.now (length a.out.now)) c.in_err-modulus.ensures.refusal refl) (refl, refl))
 
 pub read-requires : goal.read-requires
 read-requires c =
@@ -72,37 +72,37 @@ returns-in_err-tests-clause-synthesised c =
     let e = c.in_ok-modulus.ensures in
     let m = ap (λ (x : ℕ × ℕ). x.0) e.value in
     let w = ap (λ (x : ℕ × ℕ). x.1) e.value in
-    rw (p.1, p.2) (promise_refused {A = ℕ} (stop_second _ _ (refusal_parts a.d a.n a.tableau.now (length a.out.now)) (sym e.refusal) (c.in_err-tests.ensures ∙ (cc)) refl) (refl, refl))
+    rw (p.1, p.2) (promise_refused {A = ℕ} (well_formed a.d a.n a.tableau.now (length a.out.now)) (stop_second _ _ (refusal_parts a.d a.n a.tableau.now (length a.out.now)) (sym e.refusal) (c.in_err-tests.ensures ∙ (cc)) refl) (refl, refl))
 
 pub write_list-requires-clause-sound : goal.write_list-requires-clause-sound
 write_list-requires-clause-sound c =
     let a = c.args in
     let f = at (goal.at.write_list-requires-clause-sound c).In_ok-tests in
     let w = accepted_given a.d a.n _ _ f.none in
-    rw (f.tableau, f.modulus, f.width) (formed_given w.0, w.1)
+    rw (c.new.ensures.0, c.new.ensures.1, c.new.ensures.2, f.tableau, f.modulus, f.width) (formed_given w.0, w.1)
 
 pub write_list-requires-clause-room : goal.write_list-requires-clause-room
 write_list-requires-clause-room c =
     let a = c.args in
     let f = at (goal.at.write_list-requires-clause-room c).In_ok-tests in
-    rw f.width (accepted_given a.d a.n _ _ f.none).0.roomy
+    rw (c.new.ensures.1, f.width) (accepted_given a.d a.n _ _ f.none).0.roomy
 
 pub overflow_cast-result : goal.overflow_cast-result
 overflow_cast-result c =
     let a = c.args in
     let f = at (goal.at.overflow_cast-result c).In_ok-tests in
-    omega (arith, count_fits a.d a.n _ _ f.none (rw (f.tableau, f.modulus, f.width) at c.write_list.ensures.0))
+    omega (arith, count_fits a.d a.n _ _ f.none (rw (c.new.ensures.0, c.new.ensures.1, c.new.ensures.2, f.tableau, f.modulus, f.width) at c.write_list.ensures.count))
 
 pub returns-clause-synthesised : goal.returns-clause-synthesised
 returns-clause-synthesised c =
     let a = c.args in
     let f = at (goal.at.returns-clause-synthesised c).In_ok-tests in
-    let e = rw (f.tableau, f.modulus, f.width) at c.write_list.ensures in
-    promise_accepted (sym f.none) refl e.0 e.1
+    let e = rw (c.new.ensures.0, c.new.ensures.1, c.new.ensures.2, f.tableau, f.modulus, f.width) at c.write_list.ensures in
+    promise_accepted (well_formed a.d a.n a.tableau.now (length a.out.now)) (sym f.none) refl e.count e.list
 
 pub returns-clause-chosen : goal.returns-clause-chosen
 returns-clause-chosen c =
     let a = c.args in
     let f = at (goal.at.returns-clause-chosen c).In_ok-tests in
-    let e = rw (f.tableau, f.modulus, f.width) at c.write_list.ensures in
-    chosen_accepted a.out.now e.0 e.1
+    let e = rw (c.new.ensures.0, c.new.ensures.1, c.new.ensures.2, f.tableau, f.modulus, f.width) at c.write_list.ensures in
+    chosen_accepted a.out.now e.count e.list

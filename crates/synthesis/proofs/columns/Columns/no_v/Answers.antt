@@ -12,7 +12,6 @@ use Rattle.std.proofs.lemmas.Iterator.{YieldsList-from_range}
 use Rattle.std.proofs.lemmas.Iterator.Search.{all_from_yields_List}
 use Rattle.pauli.specs.Pauli.{Pauli}
 use Rattle.tableau.specs.Tableau.{column, up_from}
-use Rattle.tableau.specs.Inner.View.{table_view}
 use Rattle.synthesis.specs.Inner.Reduce.{no_v}
 use Rattle.synthesis.proofs.Entries.{v_of}
 use Rattle.synthesis.proofs.columns.Columns.no_v.Goals as goal
@@ -25,8 +24,8 @@ all_zero p a zero = refl
 all_zero p a (suc m) = ap (λ (t : Bool). zero_at p a && t) (ap (λ (i : ℕ). list_all (zero_at p) (range_with_len i m)) (add-one a) ∙ all_zero p (suc a) m)
 
 pub returns : goal.returns
-returns c =
-    let t = c.args.self.now in
-    let p = column t.n (table_view t.n t.table) c.args.c in
-    all_from_yields_List (zero_at p) _ _ c.all.result c.all.ensures.ran (YieldsList-from_range c.args.from c.value.result (t.n - c.args.from) refl (omega arith)) (λ x b q k. search (rules, tests))
+returns g c =
+    let t = g.Self.Columns.held c.args.self.now in
+    let p = column t.n t.tableau c.args.c in
+    all_from_yields_List (zero_at p) _ _ c.all.result c.all.ensures.ran (YieldsList-from_range c.args.from c.width.result (t.n - c.args.from) refl (omega arith)) (λ x b q k. search (rules, tests))
     ∙ all_zero p c.args.from (t.n - c.args.from)

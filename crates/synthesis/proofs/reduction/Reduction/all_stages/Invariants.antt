@@ -7,10 +7,10 @@ use Rattle.synthesis.proofs.Stages.{stage_rows}
 use Rattle.synthesis.proofs.reduction.Reduction.all_stages.Given as goal
 
 abbrev pub invariant-loop-q : goal.invariant-loop-q
-invariant-loop-q l =
+invariant-loop-q g l =
     let r = l.initial.self in
-    let n = r.columns.n in
+    let n = (g.C.Columns.held r.columns).n in
     record {
       room : l.self.count + stage_rows (n - l.q) ≤ r.count + stage_rows n;
-      did : Did (stage_rows n) (λ d n. up_to (stage d n) 0 l.q) r l.self;
+      did : Did g.C.Columns.held (stage_rows n) (λ d n. up_to (stage d n) 0 l.q) r l.self;
     }

@@ -11,7 +11,7 @@ use Rattle.synthesis.proofs.Progress.{does_put}
 use Rattle.synthesis.proofs.reduction.Reduction.put.Goals as goal
 
 pub returns : goal.returns
-returns c =
+returns g c =
     let e = c.put.ensures in
     rw c.in-Some.is
-    (record { modulus = e.same.0; width = e.same.1; output = refl; size = ap length c.write_row.ensures ∙ length-sets c.args.self.now.out.now (8 * c.args.self.now.count) (encode_rows (view_row c.undo-undo.result ∷ [])); does = does_put _ e.put (sym c.undo-undo.ensures) c.write_row.ensures (omega arith) })
+    (record { modulus = e.same.0; width = e.same.1; output = refl; size = ap length c.write_row.ensures ∙ length-sets c.args.self.now.out.now (8 * c.args.self.now.count) (encode_rows (view_row c.undo-undo.result ∷ [])); does = does_put _ e.put (sym (rw c.modulus-d.ensures.value at c.undo-undo.ensures)) c.write_row.ensures (omega arith) })

@@ -6,4 +6,4 @@ use Rattle.synthesis.proofs.reduction.Reduction.stage.Goals as goal
 
 pub returns : goal.returns
 unfolding stage
-returns c = did_more (omega arith) (did_then (did_then c.unit_x.ensures c.clear_w.ensures) c.unit_z.ensures)
+returns g c = did_more (omega arith) (did_then (did_then c.unit_x.ensures c.clear_w.ensures) c.unit_z.ensures)

@@ -13,9 +13,9 @@ use Rattle.synthesis.proofs.reduction.Reduction.straighten.Goals as goal
 
 pub returns-in-Some : goal.returns-in-Some
 unfolding straighten
-returns-in-Some c =
+returns-in-Some g c =
     let a = c.args in
-    let d = a.self.now.columns.d in
+    let d = (g.C.Columns.held a.self.now.columns).d in
     let k = c.in-Some.ensures.some in
     did_test (λ b d n s. clear_w d n a.c a.j (cond b s (exchange d n a.c a.j (gather_w d n a.c a.j s)))) (λ d n u. divides d (get_or (column n u a.c).v a.j 0) (get_or (column n u a.c).w a.j 0))
     (quotient_tells d _ _ (omega arith) (rw k.0 at k.1))
@@ -23,9 +23,9 @@ returns-in-Some c =
 
 pub returns : goal.returns
 unfolding straighten
-returns c =
+returns g c =
     let a = c.args in
-    let d = a.self.now.columns.d in
+    let d = (g.C.Columns.held a.self.now.columns).d in
     did_test (λ b d n s. clear_w d n a.c a.j (cond b s (exchange d n a.c a.j (gather_w d n a.c a.j s)))) (λ d n u. divides d (get_or (column n u a.c).v a.j 0) (get_or (column n u a.c).w a.j 0))
     (quotient_tells_none d _ _ (omega arith) (subst (λ (k : ℕ). d ≤ k) (sym c.in_default.ensures.none) (omega arith)))
     (did_more (omega arith) (did_then (did_then (did_make (λ d n. gather_w d n a.c a.j) c.gather_w-made.ensures c.put-2.ensures) (did_make (λ d n. exchange d n a.c a.j) c.exchange-made.ensures c.put-3.ensures))
