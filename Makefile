@@ -7,7 +7,7 @@
 # make clean       removes what was built
 
 PREFIX ?= /usr/local
-VERSION = 1.9.0
+VERSION = 1.9.1
 
 .PHONY: all test gate hosts lib program install clean
 

@@ -3,7 +3,7 @@
 
 ghost use Rattle.std.specs.Prelude.{ℕ, List, length, OnOk, IfSome};
 ghost use Rattle.std.specs.Io.KnownBytes.{Appends};
-ghost use Rattle.text.specs.Convert.{InputFits};
+ghost use Rattle.text.specs.Convert.{InputFits, ConvertsInput};
 ghost use Rattle.convert.specs.Streams.{ReadIn, WrittenFor};
 
 use std::io;
@@ -27,19 +27,31 @@ fn read_input<R: Read>(reader: &mut R, buffer: &mut [u8]) -> Option<usize>
     Some(done)
 }
 
+// Writes what is printed for what was read. A function of its own: in one with the reading the compiler fills the three buffers twice.
+fn write_converted<W: Write>(
+    buffer: &[u8; 65537],
+    input: Option<usize>,
+    writer: &mut W,
+) -> io::Result<()>
+    requires { InputFits (length buffer.now) input }
+    ensures { OnOk result ((output : List ℕ) × ConvertsInput buffer.now input output × Appends (W.contents writer.old) (W.contents writer.new) output) }
+{
+    // buffers of fixed size, the largest that an input can need: there is no heap
+    let mut numbers = [0u8; 65536];
+    let mut answer = [0u8; 11008];
+    let mut out = [0u8; 27534];
+    let count = text::convert_input(buffer, input, &mut numbers, &mut answer, &mut out);
+    writer.write_all(&out[..count])
+}
+
 // Reads all that the reader has, and writes what is printed for it.
 fn convert_stream<R: Read, W: Write>(reader: &mut R, writer: &mut W) -> io::Result<()>
     ensures { OnOk result (IfSome (R.remaining reader.old) (λ xs.
         (output : List ℕ) × WrittenFor xs output × Appends (W.contents writer.old) (W.contents writer.new) output)) }
 {
-    // buffers of fixed size, the largest that an input can need: there is no heap
     let mut buffer = [0u8; 65537];
     let input = read_input(reader, &mut buffer);
-    let mut numbers = [0u8; 65536];
-    let mut answer = [0u8; 11008];
-    let mut out = [0u8; 27534];
-    let count = text::convert_input(&buffer, input, &mut numbers, &mut answer, &mut out);
-    writer.write_all(&out[..count])
+    write_converted(&buffer, input, writer)
 }
 
 fn main(rt: HostRuntime) {

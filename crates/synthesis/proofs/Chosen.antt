@@ -1,5 +1,5 @@
 -- The list handed back is a function of d, n and the tableau: two calls with one tableau, neither malformed or both in one way, hand back one list, whatever the outputs held. Assumes nothing.
-use mathlib.Core.Path.{◌≡◌, sym, ◌∙◌, ap}
+use mathlib.Core.Path.{◌≡◌, sym, ◌∙◌, ap, subst}
 use mathlib.Core.Logic.{◌≢◌}
 use mathlib.Core.List.{List, map}
 use Rattle.std.specs.Prelude.{Result}
@@ -16,8 +16,9 @@ use Rattle.arith.specs.declared.checks.Refusal.{Refusal}
 use Rattle.pauli.specs.Pauli.{Pauli}
 use Rattle.gates.specs.Written.{written, rows_of}
 use Rattle.gates.proofs.Written.{rows_bytes}
+use Rattle.tableau.specs.Bytes.{decode_tableau}
 use Rattle.synthesis.specs.Inner.Reduce.{synthesised}
-use Rattle.synthesis.specs.Demand3.{handed, Promise}
+use Rattle.synthesis.specs.Demand3.{handed, malformed_of, Promise, Synthesised}
 use Rattle.synthesis.specs.Chosen.{list_of, Chosen}
 
 -- ---- an accepted call, and a refused one
@@ -36,9 +37,9 @@ pub record SameAnswer (a a' : Answer) (new new' : List ℕ) : Type 0 where
   pub value : a.value ≡ a'.value
   pub list : handed a.value new ≡ handed a'.value new'
 
-pub old_no_difference : {d n malformed : ℕ} {t : List Pauli} {old new old' new' : List ℕ} {a a' : Answer}
+pub promise_no_difference : {d n malformed : ℕ} {t : List Pauli} {old new old' new' : List ℕ} {a a' : Answer}
     → Promise d n malformed t old new a → Chosen d n t new a → Promise d n malformed t old' new' a' → Chosen d n t new' a' → SameAnswer a a' new new'
-old_no_difference {new = new} {new' = new'} {a} {a'} s c s' c' = by_eq a.number 0 accepted refused
+promise_no_difference {new = new} {new' = new'} {a} {a'} s c s' c' = by_eq a.number 0 accepted refused
   where
     numbers : a.number ≡ a'.number
     numbers = s.number ∙ sym s'.number
@@ -54,3 +55,9 @@ old_no_difference {new = new} {new' = new'} {a} {a'} s c s' c' = by_eq a.number 
         let v = (s.refused f).0 in
         let v' = (s'.refused (λ z. f (numbers ∙ z))).0 in
         record { number = numbers; value = v ∙ sym v'; list = ap (λ (x : ℕ). handed x new) v ∙ sym (ap (λ (x : ℕ). handed x new') v') }
+
+-- of two calls: outputs of one length are malformed alike
+pub old_no_difference : {d n : ℕ} (bytes : List ℕ) {old new old' new' : List ℕ} {a a' : Answer} → length old ≡ length old'
+    → Synthesised d n bytes old new a → Chosen d n (decode_tableau n bytes) new a → Synthesised d n bytes old' new' a' → Chosen d n (decode_tableau n bytes) new' a' → SameAnswer a a' new new'
+old_no_difference {d} {n} bytes {old' = old'} {new' = new'} {a' = a'} e s c s' c' =
+    promise_no_difference s c (subst (λ (k : ℕ). Promise d n (malformed_of d n bytes k) (decode_tableau n bytes) old' new' a') (sym e) s') c'

@@ -1,16 +1,16 @@
 -- What the loops over the columns keep: a definition at the whole tableau is the same definition at the columns that are left. Assumes nothing.
 use mathlib.Core.Path.{◌≡◌, refl, sym, ap, ap₂, ◌∙◌}
 use mathlib.Core.List.{List, ◌∷◌, ◌++◌, map}
-use mathlib.Core.Bool.{Bool, ◌&&◌}
+use mathlib.Core.Bool.{Bool, true, false, ◌&&◌}
 use Prim.Native.Nat.{ℕ, zero, suc, ◌+◌, ◌*◌, ◌-◌, ◌%◌, ◌≤◌, ◌<◌}
-use native.Mathlib.Nat.{zero-add}
+use native.Mathlib.Nat.{zero-add, not-suc-le-zero}
 use native.Mathlib.Numerals.{add-one}
 use native.Mathlib.Omega.{arith}
-use lib.ListN.{length, get_or, drop, drop_of_length-le, get_or-append}
+use lib.ListN.{length, get_or, take, drop, drop_of_length-le, get_or-append}
 use lib.Seq.{drop-cons, get_or-append-add}
 use Rattle.arith.specs.Bytes.{tab}
 use Rattle.arith.proofs.Bytes.{tab_length, tab_at, tab_ext, tab_list, tab_map}
-use Rattle.arith.specs.Refusals.{or_else, number_of}
+use Rattle.arith.specs.Refusals.{or_else, number_of, pairing_of}
 use denote.Param.Members.{Mut}
 use Rattle.std.specs.Prelude.{Result, Ok, Err}
 use Rattle.std.specs.declared.ops.Range.{Range}
@@ -21,7 +21,7 @@ use Rattle.std.proofs.iter.Yields.{nat_range_steps}
 use Rattle.std.proofs.lemmas.Iterator.{YieldsList-from_range}
 use Rattle.std.proofs.lemmas.Iterator.Search.{all_from_yields_List}
 use Rattle.arith.specs.declared.checks.Refusal.{Refusal}
-use Rattle.arith.proofs.Refusals.{good, stop}
+use Rattle.arith.proofs.Refusals.{good, stop, not_zero}
 use Rattle.arith.specs.Residues.{neg}
 use Rattle.pauli.specs.Pauli.{Pauli, product, power, phase_only, unit, comm}
 use Rattle.pauli.proofs.Ranges.{pauli_path}
@@ -59,6 +59,16 @@ batch_at n b m j h = tab_at (λ i. column_at n i b) m j (phase_only n 0) h
 pub batch_length : (n : ℕ) (b : List ℕ) (m : ℕ) → length (paulis_at n b m) ≡ m
 batch_length n b m = tab_length (λ j. column_at n j b) m
 
+-- the range of the first of m Paulis: there is none, or it is the first
+pub first_none : (d n : ℕ) (b : List ℕ) (m : ℕ) → m ≡ 0 → tableau_range_of d (take 1 (paulis_at n b m)) ≡ 0
+unfolding tab tableau_range_of
+first_none d n b m e = rw e refl
+
+pub first_some : (d n : ℕ) (b : List ℕ) (m : ℕ) → 0 < m → tableau_range_of d (take 1 (paulis_at n b m)) ≡ tableau_range_of d (paulis_at n b 1)
+unfolding tab
+first_some d n b zero h = absurd (not-suc-le-zero h)
+first_some d n b (suc m) h = refl
+
 -- ---- tests of the numbers from 0 up to m, before the first turn
 pub all_start : (test : ℕ → Bool) (m : ℕ) → all test (up_from 0 m) ≡ all test (up_from 0 (m - 0))
 all_start test m = let e : m - 0 ≡ m = omega arith in rw e refl
@@ -85,6 +95,12 @@ multiplied_next d n x t ks j h l e p = p ∙ rw (e, add-one j, drop-cons t j (ph
 
 pub multiplied_end : (d n : ℕ) (x : Pauli) (t : List Pauli) (ks : List ℕ) (j : ℕ) → length t ≤ j → multiplied d n x (drop j t) (drop j ks) ≡ x
 multiplied_end d n x t ks j h = rw (drop_of_length-le t h) refl
+
+-- ---- what an answer of the pairing test says of the test
+pub pairing_failed : (holds : Bool) {A : Type 0} {k : Refusal} {r : Result A Refusal} → number_of r ≡ pairing_of holds → r ≡ Err k → holds ≡ false
+unfolding pairing_of
+pairing_failed true e g = absurd (not_zero e g)
+pairing_failed false e g = refl
 
 -- ---- the power of column j: v at j, then w at j − n
 pub power_v : (n j : ℕ) (f g : ℕ → ℕ) → j < n → f j ≡ get_or (tab f n ++ tab g n) j 0

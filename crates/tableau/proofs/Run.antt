@@ -34,8 +34,8 @@ tableau_append {d} {n} one rs {ss} a b =
     map_agree (λ p r. run_append d rs ss p ∙ run_image one b (run d rs p) ((run_hom one a).range p r)) (units_range d n one)
     ∙ sym (map-map (image d n (tableau_of d n ss)) (run d rs) (units n))
 
--- ---- row by row: a loop that puts each row behind all columns, before the first row and after row i
-rows_start : (d : ℕ) (f : ℕ → WrittenRow) (t : List Pauli) → t ≡ map (run d (map meant (tab f 0))) t
+-- ---- row by row: a loop that puts each row behind all columns, before the first row and after row i, of rows however they are given
+pub rows_start : (d : ℕ) (f : ℕ → WrittenRow) (t : List Pauli) → t ≡ map (run d (map meant (tab f 0))) t
 rows_start d f [] = refl
 rows_start d f (p ∷ t) = ap₂ (λ (x : Pauli) (l : List Pauli). x ∷ l) (run_start d f p) (rows_start d f t)
 
@@ -46,5 +46,9 @@ rows_more : (d : ℕ) (f : ℕ → WrittenRow) (i : ℕ) (t : List Pauli) → ma
 rows_more d f i [] = refl
 rows_more d f i (p ∷ t) = ap₂ (λ (x : Pauli) (l : List Pauli). x ∷ l) (run_next d f i p refl refl) (rows_more d f i t)
 
+pub rows_step : (d : ℕ) (f : ℕ → WrittenRow) (i : ℕ) (t : List Pauli) {u s : List Pauli} → u ≡ map (run d (map meant (tab f i))) t → s ≡ map (apply d (meant (f i))) u → s ≡ map (run d (map meant (tab f (i + 1)))) t
+rows_step d f i t e g = g ∙ ap (map (apply d (meant (f i)))) e ∙ rows_more d f i t
+
+-- of the rows in bytes
 pub rows_next : (d : ℕ) (b : List ℕ) (i : ℕ) (t : List Pauli) {u s : List Pauli} {w : WrittenRow} → u ≡ map (run d (map meant (tab (row_at b) i))) t → w ≡ row_at b i → s ≡ map (apply d (meant w)) u → s ≡ map (run d (map meant (tab (row_at b) (i + 1)))) t
 rows_next d b i t e r g = g ∙ rw r (ap (map (apply d (meant (row_at b i)))) e) ∙ rows_more d (row_at b) i t

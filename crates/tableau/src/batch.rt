@@ -40,9 +40,9 @@ fn first_range(batch: &[u8], d: Modulus, n: Width) -> Result<(), Refusal>
 // ---- images
 
 impl Table {
-    // Writes the images of the Paulis.
+    // Writes the images of the Paulis. It asks for them in range, so that it is called only behind the test of every one.
     fn write_images(&self, batch: &[u8], d: Modulus, n: Width, out: &mut [u8])
-        requires all_in_range { AllInRange d n (table_view n self.now) }
+        requires all_in_range { AllInRange d n (table_view n self.now) × AllInRange d n (decode_batch n batch.now) }
         requires room { length batch.now ≤ length out.old }
         ensures { out.new ≡ front (encode_tableau (map (image d n (table_view n self.now)) (decode_batch n batch.now))) out.old }
     {

@@ -200,12 +200,12 @@ impl Column {
         self.w[j] = t.wj;
     }
 
-    // 0 for a column that no row on i and j changes, 1 for any other.
+    // 0 for a column that no row on i and j changes, 1 for any other. An `if`: of the negated test turned into a number the compiler makes a branch for each column, which the processor often guesses wrongly.
     fn changes(&self, i: usize, j: usize, d: Modulus) -> u32
         requires { (i < 16) × (j < 16) }
         ensures { (n : ℕ) → i < n → j < n → result ≡ changes d i j (column_view n self.now) }
     {
-        u32::from(!self.touched(i, j).still(d))
+        if self.touched(i, j).still(d) { 0 } else { 1 }
     }
 
     // A legal row on i and j put behind the column.

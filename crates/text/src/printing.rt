@@ -7,19 +7,21 @@ ghost use Rattle.text.specs.Inner.Prints.{PutsText, Prints, all_numbers, tableau
 use gates::Row;
 use gates::kind::Kind;
 use gates::lists::read_row;
-use itoa::Buffer;
 
 // Writes the digits of x. Each function here writes from position `at` on and returns the position after what it wrote.
 // The buffer and the position are two arguments: were they a struct's, each contract would also have to say that the struct holds the same buffer as before.
+// Tried, the kit's crate itoa, with one digit written here and without: numbers of one digit take 4 times as long by it, those of two half as long again.
 fn print_number(out: &mut [u8], at: usize, x: u16) -> usize
     requires { at + length (digits x) ≤ length out.old }
     ensures { PutsText out.old at (digits x) result out.new }
 {
-    let mut buffer = Buffer::new();
-    let text = buffer.format(x).as_bytes();
-    let next = at + text.len();
-    out[at..next].copy_from_slice(text);
-    next
+    if x < 10 {
+        out[at] = b'0' + (x as u8);
+        return at + 1;
+    }
+    let next = print_number(out, at, x / 10);
+    out[next] = b'0' + ((x % 10) as u8);
+    next + 1
 }
 
 // Writes a number and the byte that ends its field.
